@@ -5,7 +5,7 @@ use std::collections::BTreeSet;
 use std::test::Fail;
 use tf_config_address::{InstanceKey, ObjectId, ResourceAddr};
 use tf_state_data::{Object, Record, Resource, State};
-use tf_value::Value;
+use tf_value_data::Value;
 
 /// A resource with one object.
 fn resource(alloc: Global) -> Result<Resource, AllocError> {

@@ -14,7 +14,7 @@ use Rattle.tf_state.specs.Text.{state_text}
 use Rattle.tf_state.specs.Valid.{IsValid}
 use Rattle.tf_cli.specs.Applies.{IsApplied, IsCarriedOut, IsPlanOf, MayStart, text_in}
 use Rattle.tf_cli_inputs.specs.Texts.{Texts}
-use Rattle.tf_plan.specs.declared.refused.Refused.{Refused}
+use Rattle.tf_plan_planner.specs.declared.refused.Refused.{Refused}
 use Rattle.tf_cli_text.specs.declared.applied.Applied.{Applied}
 
 same-serial : (n m : ℕ) → not (n == m) ≡ false → n ≡ m

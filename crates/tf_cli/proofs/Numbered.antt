@@ -2,9 +2,9 @@
 use Rattle.std.proofs.Common.{◌≡◌, ◌∷◌, [], ◌∙◌, ℕ, Bool, true, false, List, Result, Ok, Err, IfErr, refl, ap, inl, inr}
 use Rattle.std.specs.Prelude.{MatchBool}
 use Rattle.tf_cli_inputs.specs.Texts.{Texts}
-use Rattle.tf_plan.specs.Refused.{Tells}
-use Rattle.tf_plan.specs.declared.refused.Refused.{Refused}
-use Rattle.tf_plan.specs.declared.refused.Refused.TheVariants.{NoMemory, These}
+use Rattle.tf_plan_planner.specs.Refused.{Tells}
+use Rattle.tf_plan_planner.specs.declared.refused.Refused.{Refused}
+use Rattle.tf_plan_planner.specs.declared.refused.Refused.TheVariants.{NoMemory, These}
 use Rattle.tf_plan_data.specs.Plan.{PlanView}
 use Rattle.tf_provider_protocol.specs.Meaning.{Meaning}
 use Rattle.tf_config_refusal.specs.Refusal.{RefusalView, no_memory, workers}

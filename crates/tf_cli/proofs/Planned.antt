@@ -3,13 +3,13 @@ use Rattle.std.proofs.Common.{ℕ, List, Ok, Err, Result}
 use Rattle.std.specs.Prelude.{IfOk}
 use Rattle.tf_config_data.specs.Config.{ConfigView}
 use Rattle.tf_cli_inputs.specs.Texts.{ReadAs, Texts}
-use Rattle.tf_plan.specs.Plan.{IsPlan}
-use Rattle.tf_plan.specs.declared.refused.Refused.{Refused}
+use Rattle.tf_plan_planner.specs.Plan.{IsPlan}
+use Rattle.tf_plan_planner.specs.declared.refused.Refused.{Refused}
 use Rattle.tf_plan_data.specs.Plan.{plan_of}
 use Rattle.tf_plan_data.specs.declared.plan.Plan.{Plan}
 use Rattle.tf_provider_protocol.specs.Meaning.{Meaning}
 use Rattle.tf_state_data.specs.State.{StateView}
-use Rattle.tf_value.specs.Tree.{Entries}
+use Rattle.tf_value_data.specs.Tree.{Entries}
 use Rattle.tf_cli.specs.Applies.{IsPlanOf}
 
 -- what is planned of what texts read as is the plan of the texts

@@ -6,7 +6,7 @@ use Rattle.tf_plan_data.specs.declared.plan.Plan.{Plan}
 use Rattle.tf_plan_data.specs.Plan.{PlanView}
 use Rattle.tf_plan_text.specs.Text.{plan_text}
 use Rattle.tf_cli_inputs.specs.Texts.{Texts}
-use Rattle.tf_plan.specs.declared.refused.Refused.{Refused}
+use Rattle.tf_plan_planner.specs.declared.refused.Refused.{Refused}
 use Rattle.tf_provider_protocol.specs.Meaning.{Meaning}
 use Rattle.tf_cli.specs.Applies.{IsPlanOf, IsPlanText, text_in}
 

@@ -3,15 +3,15 @@ use Rattle.std.specs.Prelude.{◌≡◌, ◌≢◌, ◌⊎◌, false, List, [], 
 use Rattle.tf_config_data.specs.Config.{ConfigView}
 use Rattle.tf_cli_inputs.specs.Refusals.{IsToldOf}
 use Rattle.tf_cli_inputs.specs.Texts.{Texts, ReadAs}
-use Rattle.tf_plan.specs.Refused.{AreRefused}
-use Rattle.tf_plan.specs.declared.refused.Refused.{Refused}
-use Rattle.tf_plan.specs.declared.refused.Refused.TheVariants.{NoMemory, These}
+use Rattle.tf_plan_planner.specs.Refused.{AreRefused}
+use Rattle.tf_plan_planner.specs.declared.refused.Refused.{Refused}
+use Rattle.tf_plan_planner.specs.declared.refused.Refused.TheVariants.{NoMemory, These}
 use Rattle.tf_provider_protocol.specs.Meaning.{Meaning}
 use Rattle.tf_plan_data.specs.Plan.{PlanView}
 use Rattle.tf_config_refusal.specs.Refusal.{RefusalView, no_memory, refusal_of, workers}
 use Rattle.tf_walk.specs.Run.{are_workers}
 use Rattle.tf_state_data.specs.State.{StateView}
-use Rattle.tf_value.specs.Tree.{Entries}
+use Rattle.tf_value_data.specs.Tree.{Entries}
 use Rattle.tf_cli.specs.Applies.{IsPlanOf}
 
 -- Texts that can't be read have one refusal.

@@ -11,6 +11,6 @@ pub use tf_cli_lines::{SaveFault, save, save_all};
 pub use tf_cli_options::{GraphForm, Options, Program, options};
 pub use tf_cli_text::{Applied, print, print_refused, show, state_to_write};
 pub use tf_config_refusal::Refusal;
-pub use tf_plan::Refused;
+pub use tf_plan_planner::Refused;
 pub use tf_walk_action::Stop;
 pub use tf_walk_report::{Report, Walked};

@@ -5,16 +5,16 @@ ghost use Rattle.tf_walk_action.specs.Words.{action_of, AreServed, plan_of, stat
 ghost use Rattle.tf_cli.specs.Applies.{IsPlanOf, IsPlanText, text_in};
 ghost use Rattle.tf_cli.specs.Refusals.{AreRefusals, RefusesBy};
 ghost use Rattle.tf_cli_inputs.specs.Texts.{the_texts};
-ghost use Rattle.tf_plan.specs.Refused.{Tells};
-ghost use Rattle.tf_plan.specs.declared.refused.Refused.TheVariants.{NoMemory};
+ghost use Rattle.tf_plan_planner.specs.Refused.{Tells};
+ghost use Rattle.tf_plan_planner.specs.declared.refused.Refused.TheVariants.{NoMemory};
 ghost use Rattle.tf_config_refusal.specs.Refusal.{refusal_of};
 ghost use Rattle.tf_state.specs.Valid.{IsValid};
 
 use std::alloc::Global;
 use tf_cli_inputs::{Inputs, read_texts};
 use tf_config_refusal::Refusal;
-use tf_plan::{Refused, plan};
 use tf_plan_data::Planned;
+use tf_plan_planner::{Refused, plan};
 use tf_plan_text::plan_text as text_of_plan;
 use tf_provider::Provider;
 

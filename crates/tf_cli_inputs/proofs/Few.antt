@@ -1,8 +1,8 @@
 -- There are few resources of a configuration and a state together, and a serial after the state's.
 use Rattle.std.proofs.Common.{◌≡◌, ◌≤◌, ◌<◌, ◌+◌, ◌^◌, ℕ, List, [], ◌∷◌, Option, Some, None, length, map, suc, refl, sym, subst, ap, arith}
 use Rattle.std.proofs.lemmas.List.{length-append}
-use Rattle.tf_config.specs.Config.{names_in}
-use Rattle.tf_config.specs.Reading.{IsWithinCounts}
+use Rattle.tf_config_json.specs.Config.{names_in}
+use Rattle.tf_config_json.specs.Reading.{IsWithinCounts}
 use Rattle.tf_config_data.specs.Config.{ConfigView}
 use Rattle.tf_config_data.specs.Names.{block_name, local_names, names_of}
 use Rattle.tf_cli_inputs.specs.Texts.{IsPrior}

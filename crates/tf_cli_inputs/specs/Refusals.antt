@@ -1,6 +1,6 @@
 -- What is refused of the texts that a user gives.
 use Rattle.std.specs.Prelude.{◌≡◌, ◌⊎◌, ℕ, codes, List, Option, Some, None}
-use Rattle.tf_config.specs.Reading.{IsRefused}
+use Rattle.tf_config_json.specs.Reading.{IsRefused}
 use Rattle.tf_config_data.specs.Config.{ConfigView}
 use Rattle.tf_config_names.specs.Judging.{RefusesItsNames}
 use Rattle.tf_config_refusal.specs.declared.code.Code.{Code}
@@ -9,8 +9,8 @@ use Rattle.tf_config_refusal.specs.Refusal.{RefusalView, no_memory, fault, bare}
 use Rattle.tf_state.specs.Table.{IsUnread}
 use Rattle.tf_state.specs.declared.fault.StateFault.{StateFault}
 use Rattle.tf_state.specs.declared.fault.StateFault.TheVariants.{BadState, Limit, OutOfMemory}
-use Rattle.tf_value.specs.Tree.{Entries}
-use Rattle.tf_config.specs.VariablesRead as variables
+use Rattle.tf_value_data.specs.Tree.{Entries}
+use Rattle.tf_config_json.specs.VariablesRead as variables
 use Rattle.tf_cli_inputs.specs.Texts.{Texts, IsRead, AreNamesGood, AreTheValues}
 
 -- The text is a configuration, and its names are refused.

@@ -1,9 +1,9 @@
 -- What the texts that a user gives stand for.
 use Rattle.std.specs.Prelude.{◌≡◌, ◌≤◌, ℕ, List, length, Option, Some, None}
 use Rattle.serde_json.specs.Data.{Data}
-use Rattle.tf_config.specs.Configuration.{IsConfiguration}
-use Rattle.tf_config.specs.Demand.{AreMet}
-use Rattle.tf_config.specs.Reading.{IsTree, IsWithinCounts, max_bytes}
+use Rattle.tf_config_json.specs.Configuration.{IsConfiguration}
+use Rattle.tf_config_json.specs.Demand.{AreMet}
+use Rattle.tf_config_json.specs.Reading.{IsTree, IsWithinCounts, max_bytes}
 use Rattle.tf_config_data.specs.Config.{ConfigView}
 use Rattle.tf_config_data.specs.Names.{names_of}
 use Rattle.tf_config_names.specs.Judging.{AllAreKnown}
@@ -11,9 +11,9 @@ use Rattle.tf_config_names.specs.Needs.{Needs}
 use Rattle.tf_state.specs.Table.{IsPlannable, Reads}
 use Rattle.tf_state_data.specs.State.{StateView, empty_state}
 use Rattle.tf_expr_syntax.specs.TemplateNames.{Pair}
-use Rattle.tf_value.specs.Tree.{Entries}
-use Rattle.tf_config.specs.VariablesRead.{IsFileOf}
-use Rattle.tf_config.specs.Values.{AreValues, file_checks}
+use Rattle.tf_value_data.specs.Tree.{Entries}
+use Rattle.tf_config_json.specs.VariablesRead.{IsFileOf}
+use Rattle.tf_config_json.specs.Values.{AreValues, file_checks}
 
 -- the texts that a user gives: a configuration, and a variables file and a prior state, where there are such
 pub record Texts : Type 0 where

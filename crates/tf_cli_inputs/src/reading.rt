@@ -1,26 +1,26 @@
 //! From the texts that the user gives to what they stand for.
 
 ghost use Rattle.std.specs.Prelude.{◌≡◌, ◌≤◌, ◌<◌, ◌+◌, ◌^◌, length, option_map, IfOk, IfErr, OnOk};
-ghost use Rattle.tf_config.specs.Reading.{IsRefused, IsWithinCounts};
+ghost use Rattle.tf_config_json.specs.Reading.{IsRefused, IsWithinCounts};
 ghost use Rattle.tf_config_data.specs.Words.{config_of, names_of};
 ghost use Rattle.tf_config_names.specs.Judging.{RefusesItsNames};
 ghost use Rattle.tf_config_names.specs.Needs.{IsAcyclic, IsDependence};
 ghost use Rattle.tf_config_refusal.specs.Refusal.{refusal_of};
 ghost use Rattle.tf_state.specs.Valid.{IsValid};
 ghost use Rattle.tf_state_data.specs.State.{state_of};
-ghost use Rattle.tf_value.specs.Tree.{entries_view};
+ghost use Rattle.tf_value_data.specs.Tree.{entries_view};
 ghost use Rattle.tf_cli_inputs.specs.Refusals.{IsToldOf, IsToldOfState, at_state, fault_told};
 ghost use Rattle.tf_cli_inputs.specs.Texts.{AreNamesGood, IsPrior, IsRead, ReadAs, the_texts};
 
 use std::alloc::{AllocError, Global};
 use std::collections::BTreeMap;
-use tf_config::{Config, names_are_few, read, read_vars};
+use tf_config_json::{Config, names_are_few, read, read_vars};
 use tf_config_names::{Dependence, check_names};
 use tf_config_refusal::{Code, Detail, Refusal};
 use tf_graph::MAX_NODES;
 use tf_state::{StateFault, new_states_are_valid, read as read_state, read_states_are_valid};
 use tf_state_data::State;
-use tf_value::Value;
+use tf_value_data::Value;
 
 /// What the texts that a user gives stand for.
 #[derive(Drop)]
@@ -41,9 +41,9 @@ pub struct Inputs {
 /// # Errors
 ///
 /// The first of these in the order of tests, or `OutOfMemory`.
-/// - What `tf_config::read` refuses.
+/// - What `tf_config_json::read` refuses.
 /// - What `tf_config_names::check_names` refuses: 4 and then 5.
-/// - What `tf_config::read_vars` refuses.
+/// - What `tf_config_json::read_vars` refuses.
 /// - 13 at `state` where the prior state's text is no state's, and 14 there where the state is beyond a limit.
 pub fn read_texts(
     alloc: Global,

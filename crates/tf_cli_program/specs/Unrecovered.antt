@@ -4,7 +4,7 @@ use Rattle.tf_cli.specs.Applies.{IsApplied}
 use Rattle.tf_cli.specs.Refusals.{AreRefusals}
 use Rattle.tf_cli_text.specs.declared.applied.Applied.{Applied}
 use Rattle.tf_provider_log.specs.Header.{HeaderView}
-use Rattle.tf_plan.specs.Refused.{Tells}
+use Rattle.tf_plan_planner.specs.Refused.{Tells}
 use Rattle.tf_provider_protocol.specs.Meaning.{Meaning}
 use Rattle.tf_cli_program.specs.Recovered.{texts_in, used_answers}
 use Rattle.tf_cli_program.specs.declared.taking.Unrecovered.{Unrecovered}

@@ -5,8 +5,8 @@ use Rattle.std.specs.declared.alloc.Global.{Global}
 use Rattle.std.specs.declared.process.ExitCode.{ExitCode}
 use Rattle.std.specs.declared.string.String.{String}
 use Rattle.tf_cli_inputs.specs.Texts.{Texts, the_texts}
-use Rattle.tf_plan.specs.Refused.{Tells}
-use Rattle.tf_plan.specs.declared.refused.Refused.{Refused}
+use Rattle.tf_plan_planner.specs.Refused.{Tells}
+use Rattle.tf_plan_planner.specs.declared.refused.Refused.{Refused}
 use Rattle.tf_provider_protocol.specs.Meaning.{Meaning}
 use Rattle.tf_walk.specs.Run.{are_workers}
 use Rattle.tf_cli.specs.Applies.{IsApplied, IsPlanOf, IsPlanText}

@@ -2,7 +2,7 @@
 
 ghost use Rattle.std.specs.Prelude.{◌≡◌, map, IfErr, IfOk, string_bytes};
 ghost use Rattle.tf_cli.specs.Refusals.{AreRefusals};
-ghost use Rattle.tf_plan.specs.Refused.{Tells};
+ghost use Rattle.tf_plan_planner.specs.Refused.{Tells};
 ghost use Rattle.tf_cli_program.specs.Work.{IsGraphText, texts_of};
 
 use std::alloc::Global;

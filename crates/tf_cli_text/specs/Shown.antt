@@ -5,8 +5,8 @@ use Rattle.std.specs.Result.{result_ok}
 use Rattle.tf_config_refusal.specs.Code.{number_of}
 use Rattle.tf_config_refusal.specs.Refusal.{no_memory, refusal_of}
 use Rattle.tf_cli_lines.specs.Lines.{refusal_line, unwritten_line, verb_text}
-use Rattle.tf_plan.specs.declared.refused.Refused.{Refused}
-use Rattle.tf_plan.specs.declared.refused.Refused.TheVariants.{NoMemory, These}
+use Rattle.tf_plan_planner.specs.declared.refused.Refused.{Refused}
+use Rattle.tf_plan_planner.specs.declared.refused.Refused.TheVariants.{NoMemory, These}
 use Rattle.tf_provider_protocol.specs.Verdict.{is_good_verdict}
 use Rattle.tf_walk_action.specs.declared.excuse.Outcome.{Outcome}
 use Rattle.tf_walk_action.specs.declared.excuse.Outcome.TheVariants as outcome

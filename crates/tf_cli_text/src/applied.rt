@@ -4,7 +4,7 @@ ghost use Rattle.std.specs.Prelude.{◌≡◌, option_map, string_bytes};
 ghost use Rattle.tf_cli_text.specs.Shown.{to_write};
 
 use std::alloc::AllocError;
-use tf_plan::Refused;
+use tf_plan_planner::Refused;
 use tf_walk_report::{Report, Walked};
 
 /// What came of an apply. What was created may be known from here alone, so it can be neither copied nor let go:

@@ -11,7 +11,7 @@ use crate::applied::Applied;
 use itoa::Buffer;
 use std::io::Write;
 use tf_cli_lines::{SaveFault, print_refusals, save, save_all, verb_text};
-use tf_plan::Refused;
+use tf_plan_planner::Refused;
 use tf_provider::Verdict;
 use tf_walk_action::Outcome;
 use tf_walk_report::{Diagnostic, Report, Walked};

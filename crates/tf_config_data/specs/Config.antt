@@ -4,7 +4,7 @@ use Rattle.std.specs.declared.alloc.Global.{Global}
 use Rattle.tf_config_address.specs.ResourceAddr.{ResourceAddrView, addr_of}
 use Rattle.tf_config_address.specs.declared.addr.ResourceAddr.{ResourceAddr}
 use Rattle.tf_expr_syntax.specs.ExprTree.{Tree, tree_of, Entries, entries_view}
-use Rattle.tf_value.specs.Tree as values
+use Rattle.tf_value_data.specs.Tree as values
 use Rattle.tf_config_data.specs.declared.config.Block.{Block}
 use Rattle.tf_config_data.specs.declared.config.Config.{Config}
 use Rattle.tf_config_data.specs.declared.config.Lifecycle.{Lifecycle}

@@ -7,4 +7,4 @@ pub use Rattle.tf_expr_syntax.specs.ExprNames.{named_below, named_by}
 pub use Rattle.tf_expr_syntax.specs.ExprTree.{entries_view, tree_of, trees_view}
 pub use Rattle.tf_expr_syntax.specs.TemplateNames.{Pair, reference_of}
 pub use Rattle.tf_expr_syntax.specs.TemplateTree.{template_view}
-pub use Rattle.tf_value.specs.Tree.{put, Tree, unknown}
+pub use Rattle.tf_value_data.specs.Tree.{put, Tree, unknown}

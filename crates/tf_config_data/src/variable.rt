@@ -1,6 +1,6 @@
 //! Input variables.
 
-use tf_value::Value;
+use tf_value_data::Value;
 
 /// What a text, a number or a truth value of a variable has to be.
 #[derive(Clone, Copy, Debug, PartialEq, Eq)]

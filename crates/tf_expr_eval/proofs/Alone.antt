@@ -1,6 +1,6 @@
 -- Templates of one interpolation alone.
 use Rattle.std.proofs.Common.{◌≡◌, ◌≢◌, refl, ℕ, true, false, List, [], ◌∷◌, length, get_or, Result, Ok, Err, String, string_bytes, Global}
-use Rattle.tf_value.specs.Tree.{Tree, text}
+use Rattle.tf_value_data.specs.Tree.{Tree, text}
 use Rattle.tf_expr_syntax.specs.TemplateTree as syntax
 use Rattle.tf_expr_syntax.specs.declared.tree.Term.{Term}
 use Rattle.tf_expr_operators.specs.Answer.{Answer, item_behind}

@@ -4,9 +4,9 @@ use Rattle.std.specs.BTreeMap.{insert_entry}
 use Rattle.std.specs.Cmp.Lexicographic.{slice_cmp}
 use Rattle.std.specs.List.Sorted.{IsStrictlySortedBy}
 use Rattle.std.specs.Map.{keys_of}
-use Rattle.tf_value.specs.Tree as values
-use Rattle.tf_value.specs.declared.value.Value.{Value}
-use Rattle.tf_value.proofs.Views.{entries_view-insert_entry}
+use Rattle.tf_value_data.specs.Tree as values
+use Rattle.tf_value_data.specs.declared.value.Value.{Value}
+use Rattle.tf_value_data.proofs.Views.{entries_view-insert_entry}
 use Rattle.tf_expr_operators.specs.Answer.{Gives}
 use Rattle.tf_expr_syntax.specs.declared.fault.EvalFault.{EvalFault}
 use Rattle.tf_expr_syntax.specs.declared.fault.EvalFault.TheVariants.{Overflow, WrongKind, Missing, Arity, TooLarge, OutOfMemory}

@@ -1,7 +1,7 @@
 -- Knowledge of the values of expressions only grows.
 use Rattle.std.proofs.Common.{◌≡◌, List, [], ◌∷◌, Ok, refl}
-use Rattle.tf_value.specs.Tree as values
-use Rattle.tf_value.specs.Refinement.{Refines, RefinesItems, RefinesEntries}
+use Rattle.tf_value_data.specs.Tree as values
+use Rattle.tf_value_data.specs.Refinement.{Refines, RefinesItems, RefinesEntries}
 use Rattle.tf_expr_operators.specs.Answer.{Answer, list_value, map_value}
 use Rattle.tf_expr_operators.specs.Laws.{ListGrows, MapGrows}
 use Rattle.tf_expr_eval.specs.Environment.{Environment, RefinesTo}

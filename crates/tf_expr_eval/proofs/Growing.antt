@@ -1,9 +1,9 @@
 -- Knowledge only grows, from part to part.
 use Rattle.std.proofs.Common.{◌≡◌, refl, ◌⊎◌, ℕ, Bool, true, false, Option, Some, None, List, [], ◌∷◌, Result, Ok, Err, sym, inl, inr, subst, if◌then◌else◌, ◌&&◌, nat_le}
 use Rattle.tf_expr_syntax.specs.TemplateTree as syntax
-use Rattle.tf_value.specs.Tree.{Tree, null, boolean, whole, text, list, map, set, unknown, items_of}
-use Rattle.tf_value.specs.Measure.{weight, depth, max_weight, max_depth}
-use Rattle.tf_value.specs.Refinement.{Refines, RefinesItems}
+use Rattle.tf_value_data.specs.Tree.{Tree, null, boolean, whole, text, list, map, set, unknown, items_of}
+use Rattle.tf_value_data.specs.Measure.{weight, depth, max_weight, max_depth}
+use Rattle.tf_value_data.specs.Refinement.{Refines, RefinesItems}
 use Rattle.tf_expr_operators.specs.Answer.{Answer, limited, item_behind, list_value}
 use Rattle.tf_expr_operators.specs.Functions.{call_value}
 use Rattle.tf_expr_syntax.specs.Function.{takes, function_named}

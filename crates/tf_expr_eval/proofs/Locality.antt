@@ -5,8 +5,8 @@ use Rattle.tf_expr_syntax.specs.ExprNames as names
 use Rattle.tf_expr_syntax.specs.ExprTree as exprs
 use Rattle.tf_expr_syntax.specs.TemplateNames.{Pair, named_by, named_among, named_between}
 use Rattle.tf_expr_syntax.specs.TemplateTree as syntax
-use Rattle.tf_value.specs.Tree.{items_of}
-use Rattle.tf_value.specs.Tree as values
+use Rattle.tf_value_data.specs.Tree.{items_of}
+use Rattle.tf_value_data.specs.Tree as values
 use Rattle.tf_expr_operators.specs.Answer.{limited, list_value, map_value}
 use Rattle.tf_expr_syntax.specs.Function.{function_named}
 use Rattle.tf_expr_operators.specs.Operators.{unary_value, binary_value}

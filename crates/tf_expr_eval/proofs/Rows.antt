@@ -1,8 +1,8 @@
 -- Parts in a row, valued one after another.
 use Rattle.std.proofs.Common.{◌≡◌, refl, ℕ, ◌+◌, ◌<◌, ◌≤◌, suc, List, [], ◌∷◌, ◌++◌, Option, Some, true, false, length, get_or, drop, Result, Ok, Err, String, string_bytes, Global, sym, ap, ◌∙◌, append_assoc}
 use Rattle.std.proofs.lemmas.List.{append-nil, drop_more, drop_all}
-use Rattle.tf_value.specs.Tree.{Tree, text, Items, no_items, item, items_of}
-use Rattle.tf_value.specs.declared.value.Value.{Value}
+use Rattle.tf_value_data.specs.Tree.{Tree, text, Items, no_items, item, items_of}
+use Rattle.tf_value_data.specs.declared.value.Value.{Value}
 use Rattle.tf_expr_syntax.specs.TemplateTree as syntax
 use Rattle.tf_expr_syntax.specs.TemplateTree.{view, terms_view, parts_view}
 use Rattle.tf_expr_syntax.specs.declared.tree.Term.{Term}

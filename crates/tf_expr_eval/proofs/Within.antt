@@ -3,8 +3,8 @@ use Rattle.std.proofs.Common.{◌≡◌, ℕ, ℤ, pos, Bool, true, false, Optio
 use Rattle.std.proofs.lemmas.Bool.{leb-true}
 use Rattle.tf_expr_syntax.specs.ExprTree as exprs
 use Rattle.tf_expr_syntax.specs.TemplateTree as syntax
-use Rattle.tf_value.specs.Tree.{Tree, null, boolean, whole, text, unknown, items_of}
-use Rattle.tf_value.specs.Measure.{weight, depth, max_weight, max_depth, IsWithinLimits}
+use Rattle.tf_value_data.specs.Tree.{Tree, null, boolean, whole, text, unknown, items_of}
+use Rattle.tf_value_data.specs.Measure.{weight, depth, max_weight, max_depth, IsWithinLimits}
 use Rattle.tf_expr_operators.specs.Answer.{Answer, limited, item_behind, list_value, map_value}
 use Rattle.tf_expr_operators.specs.Functions.{call_value}
 use Rattle.tf_expr_syntax.specs.Function.{takes, function_named}

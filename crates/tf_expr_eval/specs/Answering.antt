@@ -1,6 +1,6 @@
 -- What the calls that evaluate several parts answer.
 use Rattle.std.specs.Prelude.{◌≡◌, ℕ, List, Result, Ok, Err}
-use Rattle.tf_value.specs.Tree.{Tree, Items}
+use Rattle.tf_value_data.specs.Tree.{Tree, Items}
 use Rattle.tf_expr_operators.specs.Answer.{items_behind}
 use Rattle.tf_expr_operators.specs.Joiner.{Joins}
 use Rattle.tf_expr_syntax.specs.declared.fault.EvalFault.{EvalFault}

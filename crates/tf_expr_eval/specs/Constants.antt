@@ -1,7 +1,7 @@
 -- Environments of constants.
 use Rattle.std.specs.Prelude.{ℕ, ◌&&◌, if◌then◌else◌, List, [], ◌∷◌, map as each, string_bytes, Ok, Err}
 use Rattle.std.specs.Str.{bytes_eq}
-use Rattle.tf_value.specs.Tree.{Tree, tree_of}
+use Rattle.tf_value_data.specs.Tree.{Tree, tree_of}
 use Rattle.tf_expr_syntax.specs.declared.fault.EvalFault.TheVariants.{Missing}
 use Rattle.tf_expr_eval.specs.Environment.{Environment}
 use Rattle.tf_expr_eval.specs.declared.constants.Constant.{Constant}

@@ -1,8 +1,8 @@
 -- What the references of an expression stand for.
 use Rattle.std.specs.Prelude.{◌≡◌, ℕ, List, Ok}
 use Rattle.tf_expr_operators.specs.Answer.{Answer}
-use Rattle.tf_value.specs.Tree.{Tree}
-use Rattle.tf_value.specs.Refinement.{Refines}
+use Rattle.tf_value_data.specs.Tree.{Tree}
+use Rattle.tf_value_data.specs.Refinement.{Refines}
 
 -- An environment gives each reference, by the names before and behind its dot, a value or a fault.
 abbrev pub Environment : Type 0

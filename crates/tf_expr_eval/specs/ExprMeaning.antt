@@ -1,6 +1,6 @@
 -- What expressions mean.
 use Rattle.std.specs.Prelude.{List, [], ◌∷◌, Result, Ok}
-use Rattle.tf_value.specs.Tree as values
+use Rattle.tf_value_data.specs.Tree as values
 use Rattle.tf_expr_operators.specs.Answer.{Answer, list_value, map_value}
 use Rattle.tf_expr_syntax.specs.declared.fault.EvalFault.{EvalFault}
 use Rattle.tf_expr_eval.specs.Environment.{Environment}

@@ -2,8 +2,8 @@
 use Rattle.std.specs.Prelude.{◌≡◌, Ok}
 use Rattle.tf_expr_syntax.specs.ExprTree as exprs
 use Rattle.tf_expr_syntax.specs.TemplateTree as syntax
-use Rattle.tf_value.specs.Tree.{Tree}
-use Rattle.tf_value.specs.Refinement.{Refines}
+use Rattle.tf_value_data.specs.Tree.{Tree}
+use Rattle.tf_value_data.specs.Refinement.{Refines}
 use Rattle.tf_expr_eval.specs.Environment.{Environment, RefinesTo}
 use Rattle.tf_expr_eval.specs.ExprMeaning.{meaning as expr_meaning}
 use Rattle.tf_expr_eval.specs.Meaning.{template_meaning}

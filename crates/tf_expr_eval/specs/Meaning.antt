@@ -1,7 +1,7 @@
 -- What templates and expressions mean.
 use Rattle.std.specs.Prelude.{ℕ, suc, pos, Bool, true, false, if◌then◌else◌, Option, Some, None, List, [], ◌∷◌, Result, Ok, Err}
 use Rattle.tf_expr_syntax.specs.TemplateTree as syntax
-use Rattle.tf_value.specs.Tree.{Tree, null, boolean, whole, text, list, map, set, unknown, Items, no_items, item, items_of}
+use Rattle.tf_value_data.specs.Tree.{Tree, null, boolean, whole, text, list, map, set, unknown, Items, no_items, item, items_of}
 use Rattle.tf_expr_operators.specs.Answer.{Answer, limited, whole_value, list_value, item_behind}
 use Rattle.tf_expr_operators.specs.Functions.{call_value}
 use Rattle.tf_expr_syntax.specs.Function.{function_named, takes}

@@ -5,7 +5,7 @@ ghost use Rattle.tf_expr_eval.specs.Constants.{constant_in, constants_of};
 use crate::scope::Scope;
 use tf_expr_operators::{EvalFault, limited_at};
 use tf_expr_syntax::Reference;
-use tf_value::Value;
+use tf_value_data::Value;
 
 /// A reference, and the value that it stands for.
 #[derive(Debug, Drop)]

@@ -15,7 +15,7 @@ use tf_expr_operators::{
     owned, unary_of,
 };
 use tf_expr_syntax::{Template, Term};
-use tf_value::Value;
+use tf_value_data::Value;
 
 /// The value of a template in a scope.
 ///

@@ -1,6 +1,6 @@
 //! Evaluation of expressions.
 
-ghost use Rattle.tf_value.specs.Tree.{entries_view as entries_of_values};
+ghost use Rattle.tf_value_data.specs.Tree.{entries_view as entries_of_values};
 ghost use Rattle.tf_expr_operators.specs.Answer.{Gives};
 ghost use Rattle.tf_expr_operators.specs.Bounded.{GivesBounded};
 ghost use Rattle.tf_expr_operators.specs.Found.{Finds};
@@ -15,7 +15,7 @@ use std::alloc::Global;
 use std::collections::BTreeMap;
 use tf_expr_operators::{Bounded, EvalFault, Found, list, made, map};
 use tf_expr_syntax::Expr;
-use tf_value::Value;
+use tf_value_data::Value;
 
 /// The value of an expression in a scope.
 ///

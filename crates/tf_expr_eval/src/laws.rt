@@ -8,7 +8,7 @@ use tf_expr_operators::laws::{
     answers_are_within_limits, binary_grows, calls_grow, collections_grow, joined_grows,
     parts_grow, unary_grows,
 };
-use tf_value::refinement_is_an_order;
+use tf_value_data::refinement_is_an_order;
 
 /// Where one environment refines to another, and a template has a value in both, the first value refines to
 /// the second. It follows from the same of each operation, whose laws are named here for their contracts.

@@ -2,7 +2,7 @@
 
 use tf_expr_operators::EvalFault;
 use tf_expr_syntax::Reference;
-use tf_value::Value;
+use tf_value_data::Value;
 
 /// What the references of a template stand for: each one for a value or a fault, always the same.
 pub trait Scope {

@@ -9,8 +9,8 @@ use Rattle.tf_expr_syntax.specs.declared.operator.Operator.{Operator}
 use Rattle.tf_expr_syntax.specs.declared.operator.Operator.TheVariants.{Or, And, Equal, NotEqual, Greater, GreaterOrEqual, Less, LessOrEqual, Add, Subtract, Multiply}
 use Rattle.tf_expr_syntax.specs.declared.tree.Prefix.{Prefix}
 use Rattle.tf_expr_syntax.specs.declared.tree.Prefix.TheVariants.{Not, Negate}
-use Rattle.tf_value.specs.Tree.{Tree, null, boolean, whole, text, list, map, set, unknown, Items, no_items, item, Entries, no_entries, entry, get}
-use Rattle.tf_value.specs.Measure.{weight, weight_of_texts, weight_of_items, weight_of_entries, depth, depth_of_items, depth_of_entries, IsWithinLimits}
+use Rattle.tf_value_data.specs.Tree.{Tree, null, boolean, whole, text, list, map, set, unknown, Items, no_items, item, Entries, no_entries, entry, get}
+use Rattle.tf_value_data.specs.Measure.{weight, weight_of_texts, weight_of_items, weight_of_entries, depth, depth_of_items, depth_of_entries, IsWithinLimits}
 use Rattle.tf_expr_syntax.specs.declared.function.Function.{Function}
 use Rattle.tf_expr_syntax.specs.declared.function.Function.TheVariants.{Length, Keys, Values, Merge, Concat, Join, ToSet}
 use Rattle.tf_expr_syntax.specs.declared.fault.EvalFault.TheVariants.{Overflow, WrongKind}

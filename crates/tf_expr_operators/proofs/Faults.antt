@@ -1,6 +1,6 @@
 -- Exact answers, and answers that memory may lack.
 use Rattle.std.proofs.Common.{◌≡◌, Result, Ok, Err, subst}
-use Rattle.tf_value.specs.declared.value.Value.{Value}
+use Rattle.tf_value_data.specs.declared.value.Value.{Value}
 use Rattle.tf_expr_syntax.specs.declared.fault.EvalFault.{EvalFault}
 use Rattle.tf_expr_syntax.specs.declared.fault.EvalFault.TheVariants.{Overflow, WrongKind, Missing, Arity, TooLarge, OutOfMemory}
 use Rattle.tf_expr_operators.specs.Answer.{Answer, Answers, Gives}

@@ -3,11 +3,11 @@ use Rattle.std.proofs.Common.{◌≡◌, ◌&&◌, ◌||◌, ◌+◌, ℕ, pos, 
 use Rattle.std.specs.Cmp.Lexicographic.{slice_cmp}
 use Rattle.std.specs.Fmt.{◌++?◌}
 use Rattle.std.specs.Ordering.{match_ordering}
-use Rattle.tf_value.specs.Tree.{Tree, null, boolean, whole, text, list, map, set, unknown, Items, no_items, item, Entries, no_entries, entry, put}
-use Rattle.tf_value.specs.Known.{known, known_items}
-use Rattle.tf_value.specs.Refinement.{Refines, RefinesItems, RefinesEntries}
-use Rattle.tf_value.proofs.Conjunction.{and-both}
-use Rattle.tf_value.proofs.Order.{Refines-refl}
+use Rattle.tf_value_data.specs.Tree.{Tree, null, boolean, whole, text, list, map, set, unknown, Items, no_items, item, Entries, no_entries, entry, put}
+use Rattle.tf_value_data.specs.Known.{known, known_items}
+use Rattle.tf_value_data.specs.Refinement.{Refines, RefinesItems, RefinesEntries}
+use Rattle.tf_value_data.proofs.Conjunction.{and-both}
+use Rattle.tf_value_data.proofs.Order.{Refines-refl}
 use Rattle.tf_expr_syntax.specs.declared.function.Function.{Function}
 use Rattle.tf_expr_syntax.specs.declared.function.Function.TheVariants.{Length, Keys, Values, Merge, Concat, Join, ToSet}
 use Rattle.tf_expr_operators.specs.Answer.{Answer, any_unknown, is_unknown, items_behind, whole_value}

@@ -5,11 +5,11 @@ use Rattle.tf_expr_syntax.specs.declared.operator.Operator.{Operator}
 use Rattle.tf_expr_syntax.specs.declared.operator.Operator.TheVariants.{Equal, NotEqual}
 use Rattle.tf_expr_syntax.specs.declared.tree.Prefix.{Prefix}
 use Rattle.tf_expr_syntax.specs.declared.tree.Prefix.TheVariants.{Not, Negate}
-use Rattle.tf_value.specs.Tree.{Tree, boolean, whole, text, list, map, unknown, Items, no_items, item, Entries, no_entries, entry, get}
-use Rattle.tf_value.specs.Known.{known, known_items}
-use Rattle.tf_value.specs.Refinement.{Refines, RefinesItems, RefinesEntries}
-use Rattle.tf_value.proofs.Conjunction.{and-first, and-second}
-use Rattle.tf_value.proofs.Order.{Refines-refl, Refines-known, RefinesItems-known}
+use Rattle.tf_value_data.specs.Tree.{Tree, boolean, whole, text, list, map, unknown, Items, no_items, item, Entries, no_entries, entry, get}
+use Rattle.tf_value_data.specs.Known.{known, known_items}
+use Rattle.tf_value_data.specs.Refinement.{Refines, RefinesItems, RefinesEntries}
+use Rattle.tf_value_data.proofs.Conjunction.{and-first, and-second}
+use Rattle.tf_value_data.proofs.Order.{Refines-refl, Refines-known, RefinesItems-known}
 use Rattle.tf_expr_operators.specs.Answer.{Answer, present_value, list_value, map_value}
 use Rattle.tf_expr_operators.specs.Operators.{not_value, negate_value, unary_value, scalars_value, equal_value, unequal_value, binary_value}
 use Rattle.tf_expr_operators.specs.Parts.{item_at, item_at_whole, attribute_value, index_value}

@@ -3,8 +3,8 @@ use Rattle.std.proofs.Common.{◌≡◌, ◌||◌, ℕ, List, [], ◌++◌, leng
 use Rattle.std.proofs.lemmas.List.{append-nil}
 use Rattle.std.specs.declared.alloc.Global.{Global}
 use Rattle.std.specs.Fmt.{◌++?◌}
-use Rattle.tf_value.specs.Tree.{Tree, text, unknown, Items, no_items, item}
-use Rattle.tf_value.specs.Measure.{IsWithinLimits}
+use Rattle.tf_value_data.specs.Tree.{Tree, text, unknown, Items, no_items, item}
+use Rattle.tf_value_data.specs.Measure.{IsWithinLimits}
 use Rattle.tf_expr_operators.specs.declared.joining.Joined.{Joined}
 use Rattle.tf_expr_operators.specs.declared.joining.Joined.TheVariants as states
 use Rattle.tf_expr_operators.specs.declared.joining.Joined.TheVariants.{Text, Unknown}

@@ -8,9 +8,9 @@ use Rattle.tf_expr_syntax.specs.declared.operator.Operator.{Operator}
 use Rattle.tf_expr_syntax.specs.declared.operator.Operator.TheVariants.{Or, And, Equal as same_as, NotEqual, Greater as above, GreaterOrEqual, Less as below, LessOrEqual, Add, Subtract, Multiply}
 use Rattle.tf_expr_syntax.specs.declared.tree.Prefix.{Prefix}
 use Rattle.tf_expr_syntax.specs.declared.tree.Prefix.TheVariants.{Not, Negate}
-use Rattle.tf_value.specs.Tree.{Tree, boolean, whole, text, list, map, set, unknown, Items, no_items, item, Entries, no_entries, entry, get, put}
-use Rattle.tf_value.specs.Known.{known, known_items, known_entries}
-use Rattle.tf_value.proofs.Conjunction.{and-first, and-second, and-both}
+use Rattle.tf_value_data.specs.Tree.{Tree, boolean, whole, text, list, map, set, unknown, Items, no_items, item, Entries, no_entries, entry, get, put}
+use Rattle.tf_value_data.specs.Known.{known, known_items, known_entries}
+use Rattle.tf_value_data.proofs.Conjunction.{and-first, and-second, and-both}
 use Rattle.tf_expr_syntax.specs.declared.function.Function.{Function}
 use Rattle.tf_expr_syntax.specs.declared.function.Function.TheVariants.{Length, Keys, Values, Merge, Concat, Join, ToSet}
 use Rattle.tf_expr_syntax.specs.declared.fault.EvalFault.TheVariants.{Overflow, WrongKind}

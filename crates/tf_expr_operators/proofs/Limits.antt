@@ -1,8 +1,8 @@
 -- Which answers are within the limits.
 use Rattle.std.proofs.Common.{◌≡◌, ◌&&◌, Bool, true, false, cond, Ok, Err, refl}
 use Rattle.std.proofs.lemmas.Bool.{le-leb, leb-true}
-use Rattle.tf_value.specs.Tree.{Tree}
-use Rattle.tf_value.specs.Measure.{IsWithinLimits}
+use Rattle.tf_value_data.specs.Tree.{Tree}
+use Rattle.tf_value_data.specs.Measure.{IsWithinLimits}
 use Rattle.tf_expr_syntax.specs.declared.fault.EvalFault.TheVariants.{WrongKind, TooLarge}
 use Rattle.tf_expr_operators.specs.Answer.{Answer, limited}
 

@@ -2,8 +2,8 @@
 use Rattle.std.proofs.Common.{◌≡◌, ℕ, List, Bool, true, false, cond, Some, None, refl, ap, ◌∙◌}
 use Rattle.std.specs.Str.{bytes_eq}
 use Rattle.std.proofs.lemmas.Slice.Eq.{bytes_eq-Decides}
-use Rattle.tf_value.specs.Tree.{Tree, Entries, no_entries, entry, get, put}
-use Rattle.tf_value.proofs.Keys.{get-put, get-put_other}
+use Rattle.tf_value_data.specs.Tree.{Tree, Entries, no_entries, entry, get, put}
+use Rattle.tf_value_data.proofs.Keys.{get-put, get-put_other}
 use Rattle.tf_expr_operators.specs.Functions.{laid_over}
 use Rattle.tf_expr_operators.specs.Laws.{AreDistinct, later_or_earlier}
 

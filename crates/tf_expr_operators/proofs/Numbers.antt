@@ -2,8 +2,8 @@
 use Rattle.std.proofs.Common.{◌≡◌, ℕ, ℤ, pos, negsuc, List, None, refl, sym, ap, arith}
 use Rattle.std.specs.Prelude.{unsigned_abs, FitsSigned}
 use Rattle.std.specs.Int.{w64, FitsUnsignedBits}
-use Rattle.tf_value.specs.Tree.{items_view}
-use Rattle.tf_value.specs.declared.value.Value.{Value}
+use Rattle.tf_value_data.specs.Tree.{items_view}
+use Rattle.tf_value_data.specs.declared.value.Value.{Value}
 use Rattle.tf_expr_operators.specs.Parts.{item_at, item_at_whole}
 
 -- a whole number that is an index

@@ -1,13 +1,13 @@
 -- Items and entries, one behind the other.
 use Rattle.std.proofs.Common.{◌≡◌, ◌<◌, ◌≤◌, zero, ◌+◌, add-one, drop-cons, drop, get_or, length, ℕ, List, [], ◌∷◌, ◌++◌, Option, Some, None, Ordering, Less, Equal, Greater, String, Global, string_bytes, string_cmp, nat_cmp, option_map, suc, arith, refl, sym, ap, ◌∙◌}
-use Rattle.tf_value.specs.Tree.{Tree, Items, no_items, item, tree_of, items_view}
+use Rattle.tf_value_data.specs.Tree.{Tree, Items, no_items, item, tree_of, items_view}
 use Rattle.std.specs.Map.{keys_of, values_of}
-use Rattle.tf_value.specs.Tree.{entries_view, text, texts_view, text_items}
+use Rattle.tf_value_data.specs.Tree.{entries_view, text, texts_view, text_items}
 use Rattle.std.specs.BTreeSet.{insert_key}
 use Rattle.std.specs.Cmp.Lexicographic.{slice_cmp}
 use Rattle.std.specs.Ordering.{match_ordering}
-use Rattle.tf_value.specs.declared.value.Value.{Value}
-use Rattle.tf_value.proofs.Views.{Entry}
+use Rattle.tf_value_data.specs.declared.value.Value.{Value}
+use Rattle.tf_value_data.proofs.Views.{Entry}
 use Rattle.tf_expr_operators.specs.Answer.{items_behind, item_behind}
 use Rattle.tf_expr_operators.specs.Parts.{item_at}
 use Rattle.tf_expr_operators.specs.Functions.{key_items, value_items, items_count, entries_count}

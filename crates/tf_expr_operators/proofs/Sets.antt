@@ -8,9 +8,9 @@ use Rattle.std.specs.List.{Contains, slice_index_or}
 use Rattle.std.specs.List.Sorted.{IsStrictlySortedBy}
 use Rattle.std.specs.Ordering.{match_ordering}
 use Rattle.std.specs.Prelude.{◌↔◌}
-use Rattle.tf_value.specs.Known.{known}
-use Rattle.tf_value.specs.Tree.{Tree, null, text, list, set, unknown, Items, no_items, item, Entries, no_entries, entry, keys_of, put}
-use Rattle.tf_value.proofs.Tables.{sorted-put}
+use Rattle.tf_value_data.specs.Known.{known}
+use Rattle.tf_value_data.specs.Tree.{Tree, null, text, list, set, unknown, Items, no_items, item, Entries, no_entries, entry, keys_of, put}
+use Rattle.tf_value_data.proofs.Tables.{sorted-put}
 use Rattle.tf_expr_operators.specs.Answer.{Answer}
 use Rattle.tf_expr_operators.specs.Functions.{texts_with, texts_value, set_value, toset_value}
 use Rattle.tf_expr_operators.specs.Laws.{IsAmong}

@@ -1,9 +1,9 @@
 -- A value, by its kinds, beside the tree that it stands for.
 use Rattle.std.proofs.Common.{◌≡◌, ◌⊎◌, ℤ, Bool, false, None, String, Vec, BTreeMap, BTreeSet, Global, refl, ap, ◌∙◌, rules, inl, inr}
-use Rattle.tf_value.specs.Tree.{Tree, null, boolean, whole, list, map, set, unknown, tree_of, items_view, entries_view, texts_view}
-use Rattle.tf_value.specs.declared.value.Value.{Value, Null, Bool as Truth, Int, List as Listed, Map as Mapped, Set as Texts, Unknown, the_lemmas}
-use Rattle.tf_value.proofs.Views.{tree_of-List, tree_of-Map, tree_of-Set}
-pub use Rattle.tf_value.proofs.Views.{tree_of-Text}
+use Rattle.tf_value_data.specs.Tree.{Tree, null, boolean, whole, list, map, set, unknown, tree_of, items_view, entries_view, texts_view}
+use Rattle.tf_value_data.specs.declared.value.Value.{Value, Null, Bool as Truth, Int, List as Listed, Map as Mapped, Set as Texts, Unknown, the_lemmas}
+use Rattle.tf_value_data.proofs.Views.{tree_of-List, tree_of-Map, tree_of-Set}
+pub use Rattle.tf_value_data.proofs.Views.{tree_of-Text}
 use Rattle.tf_expr_operators.specs.Answer.{is_unknown}
 use Rattle.tf_expr_operators.specs.Joining.{text_of}
 

@@ -1,9 +1,9 @@
 -- What an operation answers: a value or one fault.
 use Rattle.std.specs.Prelude.{◌≡◌, ◌^◌, ◌&&◌, ◌||◌, Bool, true, false, ℤ, pos, negsuc, nat_lt, nat_le, if◌then◌else◌, Result, Ok, Err, Option, Some, None, ⊤}
 use Rattle.std.specs.Borrow.{Bor}
-use Rattle.tf_value.specs.Tree.{Tree, whole, list, map, unknown, Items, no_items, item, Entries, tree_of}
-use Rattle.tf_value.specs.Measure.{weight, depth, max_weight, max_depth}
-use Rattle.tf_value.specs.declared.value.Value.{Value}
+use Rattle.tf_value_data.specs.Tree.{Tree, whole, list, map, unknown, Items, no_items, item, Entries, tree_of}
+use Rattle.tf_value_data.specs.Measure.{weight, depth, max_weight, max_depth}
+use Rattle.tf_value_data.specs.declared.value.Value.{Value}
 use Rattle.tf_expr_syntax.specs.declared.fault.EvalFault.{EvalFault}
 use Rattle.tf_expr_syntax.specs.declared.fault.EvalFault.TheVariants.{Overflow, Missing, TooLarge, OutOfMemory}
 

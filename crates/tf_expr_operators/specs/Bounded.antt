@@ -1,6 +1,6 @@
 -- Values within the limits.
 use Rattle.std.specs.Prelude.{◌≡◌, Result, Ok, Err, ⊤}
-use Rattle.tf_value.specs.Tree.{Tree, tree_of}
+use Rattle.tf_value_data.specs.Tree.{Tree, tree_of}
 use Rattle.tf_expr_operators.specs.declared.bounded.Bounded.{Bounded}
 use Rattle.tf_expr_syntax.specs.declared.fault.EvalFault.{EvalFault}
 use Rattle.tf_expr_syntax.specs.declared.fault.EvalFault.TheVariants.{OutOfMemory}

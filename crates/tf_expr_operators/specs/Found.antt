@@ -1,6 +1,6 @@
 -- What was found: a value where it stands, or one that was made.
 use Rattle.std.specs.Prelude.{◌≡◌, List, map as each, Result, Ok, Err, ⊤}
-use Rattle.tf_value.specs.Tree.{Tree, tree_of, Items, items_of}
+use Rattle.tf_value_data.specs.Tree.{Tree, tree_of, Items, items_of}
 use Rattle.tf_expr_syntax.specs.declared.fault.EvalFault.{EvalFault}
 use Rattle.tf_expr_syntax.specs.declared.fault.EvalFault.TheVariants.{OutOfMemory}
 use Rattle.tf_expr_operators.specs.declared.found.Found.{Found}

@@ -4,8 +4,8 @@ use Rattle.std.specs.BTreeSet.{insert_key}
 use Rattle.std.specs.Cmp.Lexicographic.{slice_cmp}
 use Rattle.std.specs.Option.{option_map}
 use Rattle.std.specs.Ordering.{nat_cmp}
-use Rattle.tf_value.specs.Known.{known}
-use Rattle.tf_value.specs.Tree.{Tree, text, list, map, set, unknown, Items, no_items, item, Entries, no_entries, entry, put}
+use Rattle.tf_value_data.specs.Known.{known}
+use Rattle.tf_value_data.specs.Tree.{Tree, text, list, map, set, unknown, Items, no_items, item, Entries, no_entries, entry, put}
 use Rattle.tf_expr_syntax.specs.declared.fault.EvalFault.TheVariants.{WrongKind, Arity}
 use Rattle.tf_expr_syntax.specs.declared.function.Function.{Function}
 use Rattle.tf_expr_syntax.specs.declared.function.Function.TheVariants.{Length, Keys, Values, Merge, Concat, Join, ToSet}

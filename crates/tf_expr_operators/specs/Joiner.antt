@@ -1,6 +1,6 @@
 -- What a `Joiner` holds.
 use Rattle.std.specs.Prelude.{◌≡◌, string_bytes, Ok, Err}
-use Rattle.tf_value.specs.Tree.{text, unknown, Items}
+use Rattle.tf_value_data.specs.Tree.{text, unknown, Items}
 use Rattle.tf_expr_syntax.specs.declared.fault.EvalFault.TheVariants.{WrongKind as wrong_kind, TooLarge as too_large}
 use Rattle.tf_expr_operators.specs.declared.joining.Joiner.{Joiner}
 use Rattle.tf_expr_operators.specs.declared.joining.Joined.{Joined}

@@ -1,7 +1,7 @@
 -- What stands where texts are joined.
 use Rattle.std.specs.Prelude.{ℕ, List, [], codes, if◌then◌else◌, Option, Some, None, Ok, Err}
 use Rattle.std.specs.Fmt.{signed_decimal, ◌++?◌}
-use Rattle.tf_value.specs.Tree.{Tree, boolean, whole, text, Items, no_items, item, unknown}
+use Rattle.tf_value_data.specs.Tree.{Tree, boolean, whole, text, Items, no_items, item, unknown}
 use Rattle.tf_expr_syntax.specs.declared.fault.EvalFault.TheVariants.{WrongKind}
 use Rattle.tf_expr_operators.specs.Answer.{Answer, limited, any_unknown}
 

@@ -6,10 +6,10 @@ use Rattle.std.specs.List.Sorted.{IsStrictlySortedBy}
 use Rattle.std.specs.Ordering.{nat_cmp}
 use Rattle.tf_expr_syntax.specs.declared.operator.Operator.{Operator}
 use Rattle.tf_expr_syntax.specs.declared.tree.Prefix.{Prefix}
-use Rattle.tf_value.specs.Tree.{Tree, text, list, set, Items, no_items, item, Entries, no_entries, entry, get}
-use Rattle.tf_value.specs.Known.{known, known_items, known_entries}
-use Rattle.tf_value.specs.Refinement.{Refines, RefinesItems, RefinesEntries}
-use Rattle.tf_value.specs.Measure.{IsWithinLimits}
+use Rattle.tf_value_data.specs.Tree.{Tree, text, list, set, Items, no_items, item, Entries, no_entries, entry, get}
+use Rattle.tf_value_data.specs.Known.{known, known_items, known_entries}
+use Rattle.tf_value_data.specs.Refinement.{Refines, RefinesItems, RefinesEntries}
+use Rattle.tf_value_data.specs.Measure.{IsWithinLimits}
 use Rattle.tf_expr_syntax.specs.declared.function.Function.{Function}
 use Rattle.tf_expr_operators.specs.Answer.{list_value, map_value}
 use Rattle.tf_expr_operators.specs.Operators.{unary_value, binary_value}

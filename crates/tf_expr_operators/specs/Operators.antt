@@ -1,7 +1,7 @@
 -- What operators answer.
 use Rattle.std.specs.Prelude.{Bool, not, ◌&&◌, ◌||◌, ℤ, ◌+ℤ◌, ◌-ℤ◌, ◌*ℤ◌, neg_ℤ, int_lt, int_le, if◌then◌else◌, Ok, Err}
-use Rattle.tf_value.specs.Tree.{Tree, boolean, whole, unknown, same}
-use Rattle.tf_value.specs.Known.{known}
+use Rattle.tf_value_data.specs.Tree.{Tree, boolean, whole, unknown, same}
+use Rattle.tf_value_data.specs.Known.{known}
 use Rattle.tf_expr_syntax.specs.declared.operator.Operator.{Operator}
 use Rattle.tf_expr_syntax.specs.declared.operator.Operator.TheVariants.{Or, And, Equal, NotEqual, Greater, GreaterOrEqual, Less, LessOrEqual, Add, Subtract, Multiply}
 use Rattle.tf_expr_syntax.specs.declared.tree.Prefix.{Prefix}

@@ -1,6 +1,6 @@
 -- What attributes and indices answer.
 use Rattle.std.specs.Prelude.{ℕ, zero, suc, ℤ, pos, negsuc, List, Option, Some, None, Ok, Err}
-use Rattle.tf_value.specs.Tree.{Tree, whole, text, list, map, unknown, Items, no_items, item, get}
+use Rattle.tf_value_data.specs.Tree.{Tree, whole, text, list, map, unknown, Items, no_items, item, get}
 use Rattle.tf_expr_syntax.specs.declared.fault.EvalFault.TheVariants.{WrongKind}
 use Rattle.tf_expr_operators.specs.Answer.{Answer, present_value}
 

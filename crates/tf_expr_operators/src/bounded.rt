@@ -1,10 +1,10 @@
 //! Values within the limits.
 
-ghost use Rattle.tf_value.specs.Measure.{IsWithinLimits};
-ghost use Rattle.tf_value.specs.Tree.{tree_of};
+ghost use Rattle.tf_value_data.specs.Measure.{IsWithinLimits};
+ghost use Rattle.tf_value_data.specs.Tree.{tree_of};
 
 use tf_expr_syntax::EvalFault;
-use tf_value::{Value, is_within_limits};
+use tf_value_data::{Value, is_within_limits};
 
 /// A value within the limits on weight and depth. It is measured once, and whoever has it need not measure it again.
 #[derive(Debug, Drop)]
@@ -15,8 +15,8 @@ pub struct Bounded {
 
 impl Bounded {
     ghost use Rattle.std.specs.Prelude.{◌≡◌, Ok};
-    ghost use Rattle.tf_value.specs.Measure.{IsWithinLimits};
-    ghost use Rattle.tf_value.specs.Tree.{tree_of};
+    ghost use Rattle.tf_value_data.specs.Measure.{IsWithinLimits};
+    ghost use Rattle.tf_value_data.specs.Tree.{tree_of};
     ghost use Rattle.tf_expr_operators.specs.Answer.{limited};
     ghost use Rattle.tf_expr_operators.specs.Bounded.{AnswersBounded, bounded_tree};
 

@@ -1,11 +1,11 @@
 //! Values made of values, and the limits on them.
 
-ghost use Rattle.tf_value.specs.Tree.{tree_of, items_view, entries_view};
+ghost use Rattle.tf_value_data.specs.Tree.{tree_of, items_view, entries_view};
 ghost use Rattle.tf_expr_operators.specs.Answer.{Answers, Shows, limited as limited_value, list_value, map_value};
 
 use std::collections::BTreeMap;
 use tf_expr_syntax::EvalFault;
-use tf_value::{Value, is_within_limits};
+use tf_value_data::{Value, is_within_limits};
 
 /// The value itself; refused `TooLarge` exactly where it is above the limits on weight or depth.
 pub fn limited(value: Value) -> Result<Value, EvalFault>

@@ -1,7 +1,7 @@
 //! Calls of functions.
 
 ghost use Rattle.std.specs.Prelude.{◌≡◌, IsTrue, pos, vec_len};
-ghost use Rattle.tf_value.specs.Tree.{list, tree_of, items_view};
+ghost use Rattle.tf_value_data.specs.Tree.{list, tree_of, items_view};
 ghost use Rattle.tf_expr_operators.specs.Answer.{Answers, Gives, whole_value};
 ghost use Rattle.tf_expr_operators.specs.Found.{found_items};
 ghost use Rattle.tf_expr_operators.specs.Functions.{call_value, length_value, join_value, merge_value, concat_value, spaced, spaced_value};
@@ -14,7 +14,7 @@ use crate::found::{Found, all_owned, owned};
 use crate::joining::Joiner;
 use std::alloc::Global;
 use tf_expr_syntax::{EvalFault, Function};
-use tf_value::{Value, is_known};
+use tf_value_data::{Value, is_known};
 
 /// What a function answers to as many arguments as it takes; `Unknown` where an argument is `Unknown`, and for
 /// `join` and `toset` where any part of an argument is unknown. An argument that is only read isn't copied.

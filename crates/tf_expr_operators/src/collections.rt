@@ -1,7 +1,7 @@
 //! Functions on lists, maps and sets.
 
 ghost use Rattle.std.specs.Prelude.{◌≡◌, IfOk, OnOk, []};
-ghost use Rattle.tf_value.specs.Tree.{no_entries, tree_of, items_view, entries_view};
+ghost use Rattle.tf_value_data.specs.Tree.{no_entries, tree_of, items_view, entries_view};
 ghost use Rattle.tf_expr_operators.specs.Answer.{Answers, Gives, any_unknown};
 ghost use Rattle.tf_expr_operators.specs.Functions.{key_items, keys_value, values_value, concatenated, entries_value, items_value, laid_over, merged_onto, set_value, toset_value, texts_value, texts_with};
 
@@ -9,7 +9,7 @@ use crate::building::{list, map};
 use std::alloc::{AllocError, Global};
 use std::collections::{BTreeMap, BTreeSet};
 use tf_expr_syntax::EvalFault;
-use tf_value::{Value, is_known};
+use tf_value_data::{Value, is_known};
 
 // The keys of a map.
 pub(crate) fn keys(alloc: Global, argument: &Value) -> Result<Value, EvalFault>

@@ -1,7 +1,7 @@
 //! Values that were found where they stand, and values that were made.
 
 ghost use Rattle.std.specs.Prelude.{◌≡◌, IfOk, map as each};
-ghost use Rattle.tf_value.specs.Tree.{list, map, tree_of, items_view, entries_view, get};
+ghost use Rattle.tf_value_data.specs.Tree.{list, map, tree_of, items_view, entries_view, get};
 ghost use Rattle.tf_expr_operators.specs.Answer.{Answer, Answers, Gives, Shows, list_value, present_value};
 ghost use Rattle.tf_expr_operators.specs.Found.{found_items, found_tree, Finds, FindsExactly};
 ghost use Rattle.tf_expr_operators.specs.Operators.{unary_value, binary_value};
@@ -13,7 +13,7 @@ use crate::parts::{attribute, index};
 use std::alloc::{AllocError, Global};
 use std::collections::BTreeMap;
 use tf_expr_syntax::{EvalFault, Operator, Prefix};
-use tf_value::{Value, find};
+use tf_value_data::{Value, find};
 
 /// A value: one that stands somewhere, and isn't copied, or one that was made.
 #[derive(Drop)]

@@ -1,12 +1,12 @@
 //! Texts and values, joined to a text.
 
 ghost use Rattle.std.specs.Prelude.{◌↔◌, ◌≡◌, ◌++◌, IsTrue, codes, if◌then◌else◌};
-ghost use Rattle.tf_value.specs.Measure.{IsWithinLimits};
-ghost use Rattle.tf_value.specs.Tree.{text as text_tree};
+ghost use Rattle.tf_value_data.specs.Measure.{IsWithinLimits};
+ghost use Rattle.tf_value_data.specs.Tree.{text as text_tree};
 
 use std::alloc::{AllocError, Global};
 use tf_expr_syntax::EvalFault;
-use tf_value::{MAX_WEIGHT, Value};
+use tf_value_data::{MAX_WEIGHT, Value};
 
 /// Texts and values, one behind the other, that are joined to a text: a template's texts and the values of its
 /// interpolations. Texts, whole numbers and truth values count as texts; null, lists, maps and sets don't, and an
@@ -34,7 +34,7 @@ enum Joined {
 
 impl Joiner {
     ghost use Rattle.std.specs.Prelude.{◌≡◌, OnOk, OnErr, None, false};
-    ghost use Rattle.tf_value.specs.Tree.{Tree, text, Items, no_items, tree_of};
+    ghost use Rattle.tf_value_data.specs.Tree.{Tree, text, Items, no_items, tree_of};
     ghost use Rattle.tf_expr_operators.specs.Answer.{Answers, is_unknown, item_behind};
     ghost use Rattle.tf_expr_operators.specs.Joining.{text_of};
     ghost use Rattle.tf_expr_operators.specs.Joiner.{answer_so_far, Joins};

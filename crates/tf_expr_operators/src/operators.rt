@@ -2,12 +2,12 @@
 
 ghost use Rattle.std.specs.Prelude.{◌≡◌, ℤ, FitsSigned, SomeIff};
 ghost use Rattle.std.specs.Int.{w64};
-ghost use Rattle.tf_value.specs.Tree.{tree_of};
+ghost use Rattle.tf_value_data.specs.Tree.{tree_of};
 ghost use Rattle.tf_expr_operators.specs.Answer.{Answers, whole_value};
 ghost use Rattle.tf_expr_operators.specs.Operators.{unary_value, binary_value, equal_value, unequal_value, scalars_value, truths_value, wholes_value};
 
 use tf_expr_syntax::{EvalFault, Operator, Prefix};
-use tf_value::{Value, is_known};
+use tf_value_data::{Value, is_known};
 
 /// What an operator before its operand answers: `!` of a truth value, `-` of a whole number; `Unknown` of
 /// `Unknown`. Refused `WrongKind` exactly where the operand is of another kind, and `Overflow` exactly where

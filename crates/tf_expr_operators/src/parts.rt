@@ -1,12 +1,12 @@
 //! Attributes and indices.
 
-ghost use Rattle.tf_value.specs.Tree.{list, map, tree_of, items_view, entries_view, get};
+ghost use Rattle.tf_value_data.specs.Tree.{list, map, tree_of, items_view, entries_view, get};
 ghost use Rattle.tf_expr_operators.specs.Answer.{Answers, present_value};
 ghost use Rattle.tf_expr_operators.specs.Parts.{attribute_value, index_value, item_at_whole};
 
 use std::collections::BTreeMap;
 use tf_expr_syntax::EvalFault;
-use tf_value::Value;
+use tf_value_data::Value;
 
 /// What stands at a name in a map; `Unknown` of `Unknown`. Refused `WrongKind` exactly where the value is of
 /// another kind, and `Missing` exactly where the map hasn't the name.

@@ -18,7 +18,7 @@ use Rattle.tf_plan_decision.specs.Stage.{records_at}
 use Rattle.tf_plan_decision.specs.Steps.{current_steps, decided_steps, deposed_step, destroy_if_deposed}
 use Rattle.tf_plan_decision.specs.Decision as decision
 use Rattle.tf_plan_decision.specs.Decision.{DecisionView, change, current}
-use Rattle.tf_expand.proofs.Refining.{followed}
+use Rattle.tf_expand_keys.proofs.Refining.{followed}
 use Rattle.tf_graph.specs.Digraph.{predecessors_of}
 use Rattle.tf_graph.specs.Solutions.{seen_by}
 use Rattle.tf_plan_order.specs.Members.{is_among, is_of, records_of}
@@ -26,7 +26,7 @@ use Rattle.tf_state_next.proofs.Changing.{found_addr}
 use Rattle.tf_state_next.specs.Events.{ApplyView, apply_of_instance, as_apply, left_of_deposed, left_of_object, nothing_given}
 use Rattle.tf_walk_action.specs.Objects.{object_of}
 use Rattle.tf_walk_action.specs.Outcome.{ActionResultView, done_at, is_good, objects_by}
-use Rattle.tf_plan.proofs.Distinct.{at-contained, in_flat_map}
+use Rattle.tf_plan_planner.proofs.Distinct.{at-contained, in_flat_map}
 use Rattle.tf_plan_data.specs.Fits.{deposed_key, is_apply}
 use Rattle.tf_plan_data.specs.Plan.{plan_names}
 use Rattle.tf_provider_protocol.specs.Meaning.{Meaning}
@@ -38,7 +38,7 @@ use Rattle.tf_state_next.specs.Ends.{ApplyResultView, RecordInputView, LeftView,
 use Rattle.tf_state_data.specs.Record.{RecordView}
 use Rattle.tf_state_data.specs.Resource.{ResourceView, record_at}
 use Rattle.tf_state_data.specs.State.{record_in, resource_at}
-use Rattle.tf_value.specs.Tree.{Tree}
+use Rattle.tf_value_data.specs.Tree.{Tree}
 use Rattle.tf_laws.proofs.Applied.{Applied, setting}
 use Rattle.tf_laws.proofs.Declared.{IsDeclaredAt, IsDestroyed, IsPlannedAt, apply_declared, found_contains, keys_at, known_object, planned_at, records_in}
 use Rattle.tf_laws.proofs.Events.{AreDoneWell, IsApplied, IsApplyAt, deposed_left, left_in, wanted_in}

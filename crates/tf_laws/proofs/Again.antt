@@ -10,9 +10,9 @@ use Rattle.tf_config_data.specs.Names.{NameView, a_block, meant_at}
 use Rattle.tf_plan_decision.specs.Deciding.{version_of}
 use Rattle.tf_plan_decision.proofs.Fitting.{good_fit}
 use Rattle.tf_plan_decision.specs.Prior.{PriorFaultView, first_unfit, prior_fault, record_fault}
-use Rattle.tf_expand.specs.InstanceKeys.{InstanceKeysView}
-use Rattle.tf_expand.specs.Stages.{applying}
-use Rattle.tf_expand.specs.Resolved.{ResolvedView, AreResolvedNames, environment}
+use Rattle.tf_expand_keys.specs.InstanceKeys.{InstanceKeysView}
+use Rattle.tf_expand_keys.specs.Stages.{applying}
+use Rattle.tf_expand_keys.specs.Resolved.{ResolvedView, AreResolvedNames, environment}
 use Rattle.tf_expr_eval.specs.ExprMeaning.{meaning}
 use Rattle.tf_plan_order.specs.Members.{is_among}
 use Rattle.tf_expr_operators.specs.Answer.{Answer}
@@ -20,12 +20,12 @@ use Rattle.tf_walk_action.specs.Objects.{object_of}
 use Rattle.tf_walk_action.specs.Outcome.{done_at}
 use Rattle.tf_walk_outputs.specs.Outputs.{AreOutputsDone, IsOutputDone, OutputResultView, done_with, not_evaluated, valued}
 use Rattle.tf_walk_outputs.specs.Settled.{names_are_settled}
-use Rattle.tf_plan.proofs.Distinct.{at-contained}
+use Rattle.tf_plan_planner.proofs.Distinct.{at-contained}
 use Rattle.tf_plan_data.specs.Plan.{plan_names}
 use Rattle.tf_walk_report.specs.Report.{objects_after}
 use Rattle.tf_walk_names.specs.Resolving.{without_sets}
 use Rattle.tf_expr_syntax.specs.ExprTree as expr
-use Rattle.tf_value.specs.Tree.{Tree, Entries}
+use Rattle.tf_value_data.specs.Tree.{Tree, Entries}
 use Rattle.tf_laws.proofs.After.{IsKept, at_index, kept_at}
 use Rattle.tf_laws.proofs.Agree.{IsApplyOf}
 use Rattle.tf_laws.proofs.Answers.{good_formed}
@@ -36,7 +36,7 @@ use Rattle.tf_laws.proofs.Rests.{records_are}
 use Rattle.tf_laws.proofs.Stands.{addr_of}
 use Rattle.tf_laws.proofs.Stored.{each_fits}
 use Rattle.tf_plan_object.specs.Laws.{InstancesGrow}
-use Rattle.tf_expand.specs.StandingLaws.{ResolvedNamesGrow}
+use Rattle.tf_expand_keys.specs.StandingLaws.{ResolvedNamesGrow}
 use Rattle.tf_laws.specs.Known.{ExpressionsStayKnown}
 use Rattle.tf_laws.specs.Reapply.{AreStillMade, IsValued, ValuedOutputsMean}
 use Rattle.tf_laws.specs.Rest.{AreUnrefused, EachMeans}

@@ -14,10 +14,10 @@ use Rattle.tf_graph.specs.Digraph.{Digraph, predecessors_of}
 use Rattle.tf_graph.specs.Solutions.{seen_by}
 use Rattle.tf_walk_action.specs.Objects.{is_of, object_of, objects_seen, prior_object}
 use Rattle.tf_walk_action.specs.Outcome.{ActionResultView}
-use Rattle.tf_plan.proofs.Distinct.{at-contained}
-use Rattle.tf_plan.proofs.Fitting.{AreFit}
-use Rattle.tf_plan.proofs.Objects.{one_key}
-use Rattle.tf_plan.specs.Ordered.{IsOrdered}
+use Rattle.tf_plan_planner.proofs.Distinct.{at-contained}
+use Rattle.tf_plan_planner.proofs.Fitting.{AreFit}
+use Rattle.tf_plan_planner.proofs.Objects.{one_key}
+use Rattle.tf_plan_planner.specs.Ordered.{IsOrdered}
 use Rattle.tf_plan_data.specs.Fits.{IsPlaced, deposed_key, is_apply}
 use Rattle.tf_plan_order.proofs.Listed.{pairs-those}
 use Rattle.tf_plan_order.specs.Before.{Before, needed_first}
@@ -31,8 +31,8 @@ use Rattle.tf_plan_order.proofs.Standing.{places-differ}
 use Rattle.tf_plan_order.specs.ResourceIndex.{numbered}
 use Rattle.tf_state_data.specs.Resource.{ResourceView}
 use Rattle.tf_state_data.specs.State.{StateView}
-use Rattle.tf_value.proofs.Conjunction.{and-both, and-first, and-second}
-use Rattle.tf_value.specs.Tree.{Tree}
+use Rattle.tf_value_data.proofs.Conjunction.{and-both, and-first, and-second}
+use Rattle.tf_value_data.specs.Tree.{Tree}
 use Rattle.tf_laws.proofs.Lists.{all_contained, got_within, in_range, nothing_in}
 use Rattle.tf_laws.proofs.Members.{same_key}
 

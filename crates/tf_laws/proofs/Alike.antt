@@ -12,9 +12,9 @@ use Rattle.tf_config_data.specs.Config.{BlockView}
 use Rattle.tf_config_data.specs.Names.{Meant, NameView, a_block, a_local, directly_before, addr_pair, meant_at, place_of}
 use Rattle.tf_laws.proofs.Declared.{has_stands}
 use Rattle.tf_laws.proofs.Renewals.{block_place}
-use Rattle.tf_expand.specs.InstanceKeys.{InstanceKeysView}
-use Rattle.tf_expand.specs.Stages.{applying}
-use Rattle.tf_expand.specs.Resolved.{AreResolvedNames, ResolvedView, all_stand, environment, result_in, stands_at, together, where_all}
+use Rattle.tf_expand_keys.specs.InstanceKeys.{InstanceKeysView}
+use Rattle.tf_expand_keys.specs.Stages.{applying}
+use Rattle.tf_expand_keys.specs.Resolved.{AreResolvedNames, ResolvedView, all_stand, environment, result_in, stands_at, together, where_all}
 use Rattle.tf_expr_eval.specs.Environment.{Environment}
 use Rattle.tf_graph.specs.Solutions.{seen_by}
 use Rattle.tf_laws.specs.Plans.{AreOne, AreOrderly}
@@ -25,8 +25,8 @@ use Rattle.tf_walk_action.specs.declared.excuse.Excuse.{Excuse}
 use Rattle.tf_walk_outputs.specs.Outputs as outputs
 use Rattle.tf_walk_outputs.specs.Outputs.{AreOutputsDone, IsEvaluated, IsMeant, OutputResultView, outputs_after}
 use Rattle.tf_walk_outputs.specs.Settled.{names_are_settled}
-use Rattle.tf_plan.proofs.Blocks.{names-apart}
-use Rattle.tf_plan.proofs.Tied.{block_found}
+use Rattle.tf_plan_planner.proofs.Blocks.{names-apart}
+use Rattle.tf_plan_planner.proofs.Tied.{block_found}
 use Rattle.tf_plan_data.specs.Fits.{IsDeclared, deposed_key, is_apply}
 use Rattle.tf_plan_data.specs.Plan.{PlanView, plan_names}
 use Rattle.tf_provider_protocol.specs.Meaning.{Meaning}
@@ -44,7 +44,7 @@ use Rattle.tf_state_data.specs.Resource.{ResourceView}
 use Rattle.tf_state_data.specs.State.{StateView}
 use Rattle.tf_expr_syntax.specs.ExprTree as expr
 use Rattle.tf_expr_syntax.specs.TemplateNames.{Pair}
-use Rattle.tf_value.specs.Tree.{Entries, Tree}
+use Rattle.tf_value_data.specs.Tree.{Entries, Tree}
 
 -- a plan, with these instances and by this table of what needs what
 abbrev by : PlanView → (ℕ → InstanceKeysView) → (ℕ → ℕ → Bool) → PlanView

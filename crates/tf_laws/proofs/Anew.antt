@@ -10,7 +10,7 @@ use Rattle.tf_config_address.specs.ResourceAddr.{ResourceAddrView}
 use Rattle.tf_config_address.specs.ObjectId.{InstanceKeyView, ObjectIdView}
 use Rattle.tf_config_data.specs.Config.{BlockView}
 use Rattle.tf_config_data.specs.Names.{a_block, meant_at}
-use Rattle.tf_expand.proofs.Refining.{followed}
+use Rattle.tf_expand_keys.proofs.Refining.{followed}
 use Rattle.tf_state_next.proofs.Changing.{found_addr}
 use Rattle.tf_state_next.specs.Events.{ApplyView, apply_of_instance, as_apply, ends_in, given_in, nothing_given}
 use Rattle.tf_state_next.specs.StateAfter.{IsStateAfter}
@@ -30,7 +30,7 @@ use Rattle.tf_state_data.specs.Addresses.{AreByAddress}
 use Rattle.tf_state_data.specs.Record.{RecordView}
 use Rattle.tf_state_data.specs.Resource.{ResourceView, record_at}
 use Rattle.tf_state_data.specs.State.{StateView, record_in, resource_at}
-use Rattle.tf_value.specs.Tree.{Entries}
+use Rattle.tf_value_data.specs.Tree.{Entries}
 use Rattle.tf_laws.proofs.Declared.{found_contains}
 use Rattle.tf_laws.proofs.Lists.{nothing_in}
 use Rattle.tf_laws.proofs.Places.{meant_within}

@@ -19,9 +19,9 @@ use Rattle.tf_plan_decision.specs.Stage.{decided_object, object_beside, object_o
 use Rattle.tf_plan_decision.specs.Steps.{current_steps, decided_steps, deposed_step}
 use Rattle.tf_plan_decision.specs.Decision as decision
 use Rattle.tf_plan_decision.specs.Decision.{DecisionView, change, current}
-use Rattle.tf_expand.proofs.Seen.{agree_on, same_seen}
-use Rattle.tf_expand.specs.InstanceKeys.{instance_keys}
-use Rattle.tf_expand.specs.Resolved.{environment, environment_at, result_in}
+use Rattle.tf_expand_keys.proofs.Seen.{agree_on, same_seen}
+use Rattle.tf_expand_keys.specs.InstanceKeys.{instance_keys}
+use Rattle.tf_expand_keys.specs.Resolved.{environment, environment_at, result_in}
 use Rattle.tf_expr_eval.proofs.Locality.{expressions_local}
 use Rattle.tf_expr_eval.specs.Locality.{AgreeOn}
 use Rattle.tf_graph.specs.Solutions.{seen_by}
@@ -32,10 +32,10 @@ use Rattle.tf_plan_data.specs.Plan.{plan_names}
 use Rattle.tf_provider_protocol.specs.Schema.{SchemaView}
 use Rattle.tf_walk_report.proofs.Apart.{apply_is_current}
 use Rattle.tf_state_data.specs.Record.{RecordView}
-use Rattle.tf_value.proofs.Conjunction.{and-both, and-first, and-second}
-use Rattle.tf_value.proofs.Order.{Refines-refl}
-use Rattle.tf_value.specs.Refinement.{Refines}
-use Rattle.tf_value.specs.Tree.{Tree, null}
+use Rattle.tf_value_data.proofs.Conjunction.{and-both, and-first, and-second}
+use Rattle.tf_value_data.proofs.Order.{Refines-refl}
+use Rattle.tf_value_data.specs.Refinement.{Refines}
+use Rattle.tf_value_data.specs.Tree.{Tree, null}
 use Rattle.tf_laws.proofs.PlannedParts.{Made, setting}
 use Rattle.tf_laws.specs.Requests.{StandAsPlanned}
 

@@ -7,10 +7,10 @@ use Rattle.tf_plan_decision.proofs.Aligned.{apart}
 use Rattle.tf_plan_decision.proofs.Replies.{good_is, nowhere}
 use Rattle.tf_provider_protocol.specs.Schema.{AttributeView, SchemaView, IsSchema, ascends, is_below}
 use Rattle.tf_provider_protocol.specs.Verdict.{contradiction, contradicts, contradicts_at, fits_in, has_attributes, is_good_verdict, same_names, verdict_on_object, well_formed}
-use Rattle.tf_value.proofs.Conjunction.{and-first, and-second}
-use Rattle.tf_value.proofs.Refining.{refined_Decides}
-use Rattle.tf_value.specs.Refinement.{Refines, RefinesEntries, refined}
-use Rattle.tf_value.specs.Tree.{Tree, map, Entries, no_entries, entry, get, keys_of}
+use Rattle.tf_value_data.proofs.Conjunction.{and-first, and-second}
+use Rattle.tf_value_data.proofs.Refining.{refined_Decides}
+use Rattle.tf_value_data.specs.Refinement.{Refines, RefinesEntries, refined}
+use Rattle.tf_value_data.specs.Tree.{Tree, map, Entries, no_entries, entry, get, keys_of}
 
 double : (b : Bool) → not (not b) ≡ true → b ≡ true
 double true e = refl

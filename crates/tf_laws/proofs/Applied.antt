@@ -4,7 +4,7 @@ use Rattle.std.specs.List.{AllByRecursion}
 use Rattle.tf_walk_buffers.specs.Head.{AreHeads, Head}
 use Rattle.tf_config_data.specs.Names.{directly_before}
 use Rattle.tf_plan_decision.specs.Stage.{deciding}
-use Rattle.tf_expand.specs.Resolved.{ResolvedView, AreResolvedNames}
+use Rattle.tf_expand_keys.specs.Resolved.{ResolvedView, AreResolvedNames}
 use Rattle.tf_graph.specs.Solutions.{Ranked}
 use Rattle.tf_state_next.specs.Events.{ends_in, given_in}
 use Rattle.tf_state_next.specs.Laws.{IsInOrder}
@@ -12,9 +12,9 @@ use Rattle.tf_state_next.specs.StateAfter.{IsStateAfter}
 use Rattle.tf_walk_action.specs.Asked.{AreRequests, Requests}
 use Rattle.tf_walk_action.specs.Outcome.{AreOutcomes, ActionResultView, is_good}
 use Rattle.tf_walk_action.specs.declared.excuse.Excuse.{Excuse}
-use Rattle.tf_plan.proofs.Fitting.{AreFit}
-use Rattle.tf_plan.specs.Ordered.{IsOrdered}
-use Rattle.tf_plan.specs.Planned.{IsPlanned, unrefused}
+use Rattle.tf_plan_planner.proofs.Fitting.{AreFit}
+use Rattle.tf_plan_planner.specs.Ordered.{IsOrdered}
+use Rattle.tf_plan_planner.specs.Planned.{IsPlanned, unrefused}
 use Rattle.tf_plan_data.specs.Plan.{PlanView, plan_names}
 use Rattle.tf_provider_protocol.specs.Meaning.{Meaning, schema_in}
 use Rattle.tf_provider_protocol.specs.Schema.{SchemaView, IsSchema}
@@ -25,8 +25,8 @@ use Rattle.tf_state.specs.Valid.{IsValid}
 use Rattle.tf_state_data.specs.Addresses.{AreByAddress}
 use Rattle.tf_state_data.specs.Ids.{AreById}
 use Rattle.tf_state_data.specs.State.{StateView}
-use Rattle.tf_value.specs.Known.{known_entries}
-use Rattle.tf_value.specs.Tree.{Entries}
+use Rattle.tf_value_data.specs.Known.{known_entries}
+use Rattle.tf_value_data.specs.Tree.{Entries}
 use Rattle.tf_laws.proofs.Declared.{Setting}
 
 pub record Applied : Type 0 where

@@ -13,9 +13,9 @@ use Rattle.tf_laws.proofs.Grown.{was_made}
 use Rattle.tf_laws.proofs.Lists.{all_from, got_within, in_range, nothing_in, to_filter}
 use Rattle.tf_laws.proofs.Places.{meant_within}
 use Rattle.tf_laws.proofs.Well.{IsGoodCall, good_call, good_object}
-use Rattle.tf_expand.proofs.Places.{along}
-use Rattle.tf_expand.specs.Stages.{applying}
-use Rattle.tf_expand.specs.Resolved.{rule}
+use Rattle.tf_expand_keys.proofs.Places.{along}
+use Rattle.tf_expand_keys.specs.Stages.{applying}
+use Rattle.tf_expand_keys.specs.Resolved.{rule}
 use Rattle.tf_graph.proofs.Edges.{contains_cases}
 use Rattle.tf_graph.proofs.Solving.{all_by_at, ranked-by_order, solution-exists}
 use Rattle.tf_graph.specs.Digraph.{predecessors_of}
@@ -24,16 +24,16 @@ use Rattle.tf_walk_action.specs.Asked.{AreRequests, Requests, asked_by_step, ign
 use Rattle.tf_walk_action.specs.Objects.{object_of}
 use Rattle.tf_walk_action.specs.Outcome.{AreOutcomes, ActionResultView, called, done_at, is_good, objects_by}
 use Rattle.tf_walk_action.specs.declared.excuse.Excuse.{Excuse}
-use Rattle.tf_plan.proofs.Distinct.{at-contained, in_filter}
+use Rattle.tf_plan_planner.proofs.Distinct.{at-contained, in_filter}
 use Rattle.tf_plan_data.specs.Fits.{is_apply}
 use Rattle.tf_plan_data.specs.Plan.{plan_names}
 use Rattle.tf_provider_protocol.specs.Meaning.{Answer, Asked}
 use Rattle.tf_provider_protocol.specs.Verdict.{has_attributes, is_good_verdict, verdict_on_object}
 use Rattle.tf_provider_protocol.specs.declared.verdict.Verdict.{Verdict}
 use Rattle.tf_provider_protocol.specs.declared.verdict.Verdict.TheVariants.{Good}
-use Rattle.tf_value.proofs.Order.{Refines-trans}
-use Rattle.tf_value.specs.Refinement.{Refines}
-use Rattle.tf_value.specs.Tree.{Tree}
+use Rattle.tf_value_data.proofs.Order.{Refines-trans}
+use Rattle.tf_value_data.specs.Refinement.{Refines}
+use Rattle.tf_value_data.specs.Tree.{Tree}
 use Rattle.tf_laws.proofs.AskedAlike.{needs_transitive}
 use Rattle.tf_laws.proofs.Called.{call_made, seen_good}
 use Rattle.tf_laws.proofs.Instance.{of_instance}

@@ -12,12 +12,12 @@ use Rattle.tf_plan_decision.specs.Ignored.{heeding, ignored_fault}
 use Rattle.tf_plan_object.specs.Kept.{kept_object}
 use Rattle.tf_plan_decision.specs.Laws.{CreatesAreFirst, ReplacesHaveACause, UpdatesDiffer}
 use Rattle.tf_plan_decision.specs.Prior.{PriorFaultView, first_unfit}
-use Rattle.tf_expand.specs.Resolved.{environment}
+use Rattle.tf_expand_keys.specs.Resolved.{environment}
 use Rattle.tf_plan_data.specs.Plan.{plan_names}
 use Rattle.tf_provider_protocol.specs.Meaning.{Asked}
 use Rattle.tf_provider_protocol.specs.Schema.{SchemaView}
 use Rattle.tf_state_data.specs.Record.{RecordView}
-use Rattle.tf_value.specs.Tree.{Tree}
+use Rattle.tf_value_data.specs.Tree.{Tree}
 use Rattle.tf_laws.specs.AskingLaws.{PlannedObjectsAreAsked, planned_object}
 use Rattle.tf_walk_action.specs.Asked.{asked_by_step, create_of, destroy_of, ignored_by, update_of}
 

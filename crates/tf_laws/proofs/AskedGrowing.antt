@@ -9,18 +9,18 @@ use Rattle.tf_config_data.specs.Names.{meant_at}
 use Rattle.tf_plan_object.specs.Kept.{kept_object}
 use Rattle.tf_plan_object.specs.KeptLaws.{UpdatesGrow}
 use Rattle.tf_plan_decision.specs.Stage.{all_can_go, decided_object, deciding}
-use Rattle.tf_expand.proofs.Refining.{ObjectsRefine, together_grows}
-use Rattle.tf_expand.specs.StandingLaws.{Grows, HaveGrown, ResolvedNamesExist, ResolvedNamesGrow}
-use Rattle.tf_expand.specs.InstanceKeys.{InstanceKeysView}
-use Rattle.tf_expand.specs.Stages.{applying}
-use Rattle.tf_expand.specs.Resolved.{ResolvedView, AreResolvedNames, environment, environment_at, together}
+use Rattle.tf_expand_keys.proofs.Refining.{ObjectsRefine, together_grows}
+use Rattle.tf_expand_keys.specs.StandingLaws.{Grows, HaveGrown, ResolvedNamesExist, ResolvedNamesGrow}
+use Rattle.tf_expand_keys.specs.InstanceKeys.{InstanceKeysView}
+use Rattle.tf_expand_keys.specs.Stages.{applying}
+use Rattle.tf_expand_keys.specs.Resolved.{ResolvedView, AreResolvedNames, environment, environment_at, together}
 use Rattle.tf_plan_data.specs.Plan.{PlanView, plan_names}
 use Rattle.tf_provider_protocol.specs.Meaning.{Asked, Meaning}
 use Rattle.tf_provider_protocol.specs.Schema.{SchemaView}
-use Rattle.tf_value.specs.Known.{known}
-use Rattle.tf_value.specs.Laws.{KnownStays}
-use Rattle.tf_value.specs.Refinement.{Refines}
-use Rattle.tf_value.specs.Tree.{Tree, part_at}
+use Rattle.tf_value_data.specs.Known.{known}
+use Rattle.tf_value_data.specs.Laws.{KnownStays}
+use Rattle.tf_value_data.specs.Refinement.{Refines}
+use Rattle.tf_value_data.specs.Tree.{Tree, part_at}
 use Rattle.tf_laws.proofs.KnownParts.{part_known}
 use Rattle.tf_laws.specs.AskingLaws.{IsAnsweredPlan, KnownAttributesStay, RefinesWhere, RequestsRefine}
 use Rattle.tf_walk_action.specs.Asked.{asked_by_step, create_of, ignored_by, unless_faulty, update_of}

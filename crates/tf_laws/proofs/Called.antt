@@ -15,9 +15,9 @@ use Rattle.tf_plan_data.specs.Plan.{PlanView, plan_names}
 use Rattle.tf_provider_protocol.specs.Meaning.{Answer, Asked, Meaning, first_with, schema_in}
 use Rattle.tf_provider_protocol.specs.Schema.{SchemaView}
 use Rattle.tf_provider_protocol.specs.declared.verdict.Verdict.{Verdict}
-use Rattle.tf_value.specs.Tree.{Tree}
+use Rattle.tf_value_data.specs.Tree.{Tree}
 use Rattle.tf_graph.proofs.Edges.{contains_cases}
-use Rattle.tf_value.proofs.Conjunction.{and-first, and-second}
+use Rattle.tf_value_data.proofs.Conjunction.{and-first, and-second}
 use Rattle.tf_laws.proofs.Lists.{nothing_in}
 
 -- what was called is neither skipped nor excused

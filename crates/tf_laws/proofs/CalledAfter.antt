@@ -20,7 +20,7 @@ use Rattle.tf_provider.specs.declared.journal.Entry.{Entry}
 use Rattle.tf_walk_report.specs.Outcomes.{outcome_of}
 use Rattle.tf_walk_report.specs.Report.{IsReported}
 use Rattle.tf_walk_report.specs.declared.report.Report.{Report}
-use Rattle.tf_value.proofs.Conjunction.{and-first, and-second}
+use Rattle.tf_value_data.proofs.Conjunction.{and-first, and-second}
 use Rattle.tf_laws.proofs.Journals.{action_of_entry, verdict_of_entry}
 use Rattle.tf_laws.proofs.Lists.{all_weaker}
 use Rattle.tf_laws.proofs.ListsOfEntries.{got_in, in_cases, nothing_in}

@@ -11,8 +11,8 @@ use Rattle.tf_laws.proofs.PlannedOverTexts.{plan_ranked}
 use Rattle.tf_cli_text.specs.Shown.{all_good, cant_write, is_empty, is_good_outcome, is_torn}
 use Rattle.tf_config_data.specs.Names.{Meant, NameView, a_block, a_local, directly_before, meant_at, places}
 use Rattle.tf_laws.specs.Reapply.{IsValued}
-use Rattle.tf_expand.proofs.Places.{all_places, along, names_stay}
-use Rattle.tf_expand.specs.InstanceKeys.{InstanceKeysView}
+use Rattle.tf_expand_keys.proofs.Places.{all_places, along, names_stay}
+use Rattle.tf_expand_keys.specs.InstanceKeys.{InstanceKeysView}
 use Rattle.tf_graph.specs.Solutions.{Ranked, seen_by}
 use Rattle.tf_walk_action.specs.Outcome.{ActionResultView, called, excused, faulted, is_good, skipped}
 use Rattle.tf_walk_action.specs.declared.excuse.Outcome.{Outcome}
@@ -28,8 +28,8 @@ use Rattle.tf_walk_report.specs.Report.{IsReported, report_of}
 use Rattle.tf_walk_report.specs.declared.report.Report.{Report}
 use Rattle.tf_expr_syntax.specs.ExprNames.{named_by}
 use Rattle.tf_expr_syntax.specs.ExprTree as expr
-use Rattle.tf_value.proofs.Conjunction.{and-both, and-first, and-second}
-use Rattle.tf_value.specs.Tree.{Entries, Tree}
+use Rattle.tf_value_data.proofs.Conjunction.{and-both, and-first, and-second}
+use Rattle.tf_value_data.specs.Tree.{Entries, Tree}
 use Rattle.tf_laws.specs.Success.{SuccessIsComplete}
 
 -- ---- the status

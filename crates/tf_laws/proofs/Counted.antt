@@ -7,8 +7,8 @@ use Rattle.std.specs.List.Sorted.{IsStrictlySortedBy}
 use Rattle.std.specs.Prelude.{Contains}
 use Rattle.tf_config_address.proofs.Totals.{addr_total}
 use Rattle.tf_config_address.specs.ResourceAddr.{ResourceAddrView, addr_cmp}
-use Rattle.tf_config.specs.Config.{names_in}
-use Rattle.tf_config.specs.Reading.{IsWithinCounts}
+use Rattle.tf_config_json.specs.Config.{names_in}
+use Rattle.tf_config_json.specs.Reading.{IsWithinCounts}
 use Rattle.tf_config_data.specs.Config.{BlockView, ConfigView}
 use Rattle.tf_config_data.specs.Names.{Meant, NameView, a_block, block_name, local_names, meant_at, names_of}
 use Rattle.tf_laws.proofs.Declared.{has_stands}

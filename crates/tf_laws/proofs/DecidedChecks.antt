@@ -7,18 +7,18 @@ use Rattle.std.specs.Prelude.{slice_index}
 use Rattle.std.specs.Str.{is_utf8}
 use Rattle.serde_json.specs.Data.{Data}
 use Rattle.serde_json.specs.Read.{read}
-use Rattle.tf_config.specs.Demand.{Demand, Fails, IsMet, bad_shape, holds, nothing_fits, of_expression}
-use Rattle.tf_config.specs.Reading.{IsTree}
-use Rattle.tf_expr.specs.Demand as expr
-use Rattle.tf_expr.specs.Opening.{IsPlain, OpensAt, opens}
-use Rattle.tf_expr.specs.declared.fault.ExprCause.TheVariants.{BadShape, TooDeep}
+use Rattle.tf_config_json.specs.Demand.{Demand, Fails, IsMet, bad_shape, holds, nothing_fits, of_expression}
+use Rattle.tf_config_json.specs.Reading.{IsTree}
+use Rattle.tf_expr_json.specs.Demand as expr
+use Rattle.tf_expr_json.specs.Opening.{IsPlain, OpensAt, opens}
+use Rattle.tf_expr_json.specs.declared.fault.ExprCause.TheVariants.{BadShape, TooDeep}
 use Rattle.tf_config_refusal.specs.Check.{AllMet, Check, IsFirst}
-use Rattle.tf_expr.specs.Refusing.{way_of}
+use Rattle.tf_expr_json.specs.Refusing.{way_of}
 use Rattle.tf_config_refusal.specs.declared.code.Code.{Code}
 use Rattle.tf_config_refusal.specs.Refusal.{DetailView, fault, no_memory, Way}
 use Rattle.tf_expr_syntax.specs.TemplateTree.{Woven, template_depth}
 use Rattle.tf_value_json.specs.Json.{whole_from}
-use Rattle.tf_value.specs.Known.{known}
+use Rattle.tf_value_data.specs.Known.{known}
 
 pub not_memory : (code : Code) (place : List ℕ) (detail : DetailView) → fault code place detail ≡ no_memory → ⊥
 not_memory code place detail e = absurd (cc)

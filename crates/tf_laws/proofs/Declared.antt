@@ -17,18 +17,18 @@ use Rattle.tf_plan_decision.specs.Stage.{deciding, records_at}
 use Rattle.tf_plan_decision.specs.Steps.{decided_steps, destroy_of, removal_steps}
 use Rattle.tf_plan_decision.specs.Decision as choices
 use Rattle.tf_plan_decision.specs.Decision.{DecisionView, DecisionFaultView, no_provider, removal_fault}
-use Rattle.tf_expand.specs.InstanceKeys.{InstanceKeysView, instance_keys}
-use Rattle.tf_expand.specs.Resolved.{ResolvedView, AreResolvedNames, environment}
+use Rattle.tf_expand_keys.specs.InstanceKeys.{InstanceKeysView, instance_keys}
+use Rattle.tf_expand_keys.specs.Resolved.{ResolvedView, AreResolvedNames, environment}
 use Rattle.tf_expr_eval.specs.Environment.{Environment}
 use Rattle.tf_graph.specs.Solutions.{Ranked}
 use Rattle.tf_plan_order.specs.Members.{InstanceToPlanView, is_among, is_of, member, members, records_of}
 use Rattle.tf_state_next.proofs.Changing.{found_addr}
 use Rattle.tf_state_next.proofs.Finding.{all_found, found_holds}
-use Rattle.tf_plan.proofs.Distinct.{to_map}
-use Rattle.tf_plan.proofs.Listing.{of_at}
-use Rattle.tf_plan.proofs.Steps.{removal-destroys}
-pub use Rattle.tf_plan.proofs.Tied.{blocks_one}
-use Rattle.tf_plan.specs.Planned.{IsPlanned, unrefused}
+use Rattle.tf_plan_planner.proofs.Distinct.{to_map}
+use Rattle.tf_plan_planner.proofs.Listing.{of_at}
+use Rattle.tf_plan_planner.proofs.Steps.{removal-destroys}
+pub use Rattle.tf_plan_planner.proofs.Tied.{blocks_one}
+use Rattle.tf_plan_planner.specs.Planned.{IsPlanned, unrefused}
 use Rattle.tf_plan_data.specs.Fits.{deposed_key, is_apply}
 use Rattle.tf_provider_protocol.specs.Meaning.{Meaning, schema_in}
 use Rattle.tf_provider_protocol.specs.Schema.{SchemaView}
@@ -42,7 +42,7 @@ use Rattle.tf_state_data.specs.Record.{RecordView}
 use Rattle.tf_state_data.specs.Resource.{ResourceView, record_at}
 use Rattle.tf_state_data.specs.State.{resource_at}
 use Rattle.tf_expr_syntax.specs.ExprTree as expr
-use Rattle.tf_value.specs.Tree.{Tree, Entries}
+use Rattle.tf_value_data.specs.Tree.{Tree, Entries}
 use Rattle.tf_laws.proofs.Decided.{IsDecided, IsFine, decided_member, decision_is}
 use Rattle.tf_laws.proofs.Fine.{block_fine, orphan_fine}
 use Rattle.tf_laws.proofs.Lists.{all_contained, all_from, or_first, or_second, to_filter}

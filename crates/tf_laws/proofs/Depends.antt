@@ -13,13 +13,13 @@ use Rattle.tf_config_data.specs.Config.{BlockView}
 use Rattle.tf_config_data.specs.Names.{a_block, meant_at}
 use Rattle.tf_plan_decision.specs.Steps.{decided_steps}
 use Rattle.tf_plan_decision.specs.Decision.{DecisionView}
-use Rattle.tf_expand.proofs.Refining.{followed}
+use Rattle.tf_expand_keys.proofs.Refining.{followed}
 use Rattle.tf_state_next.proofs.Changing.{found_addr}
 use Rattle.tf_state_next.specs.Events.{ApplyView, apply_of_instance, as_apply, nothing_given}
 use Rattle.tf_walk_action.specs.Objects.{object_of}
 use Rattle.tf_walk_action.specs.Outcome.{done_at}
-use Rattle.tf_plan.proofs.Distinct.{at-contained}
-use Rattle.tf_plan.proofs.Objects.{one_key}
+use Rattle.tf_plan_planner.proofs.Distinct.{at-contained}
+use Rattle.tf_plan_planner.proofs.Objects.{one_key}
 use Rattle.tf_plan_data.specs.Fits.{IsPlaced, deposed_key}
 use Rattle.tf_plan_data.specs.Plan.{plan_names}
 use Rattle.tf_walk_buffers.specs.MetadataUpdates.{is_about, is_none, metadata_updates}
@@ -31,7 +31,7 @@ use Rattle.tf_state_next.specs.Ends.{ApplyResultView, unwanted}
 use Rattle.tf_state_data.specs.Record.{RecordView}
 use Rattle.tf_state_data.specs.Resource.{ResourceView, record_at}
 use Rattle.tf_state_data.specs.State.{record_in, resource_at}
-use Rattle.tf_value.proofs.Conjunction.{and-first, and-second}
+use Rattle.tf_value_data.proofs.Conjunction.{and-first, and-second}
 use Rattle.tf_laws.proofs.After.{IsKept, IsUntouched, current_is, left_over, nothing_deposed, told, well}
 use Rattle.tf_laws.proofs.Applied.{Applied, setting}
 use Rattle.tf_laws.proofs.Declared.{found_contains, records_in}

@@ -8,8 +8,8 @@ use Rattle.tf_config_address.specs.ObjectId.{InstanceKeyView}
 use Rattle.tf_plan_object.specs.Instance.{InstanceFaultView}
 use Rattle.tf_config_data.specs.Names.{NameView, directly_before, meant_at, places}
 use Rattle.tf_plan_object.specs.Kept.{kept_object}
-use Rattle.tf_expand.proofs.Places.{all_places}
-use Rattle.tf_expand.specs.InstanceKeys.{InstanceKeysView}
+use Rattle.tf_expand_keys.proofs.Places.{all_places}
+use Rattle.tf_expand_keys.specs.InstanceKeys.{InstanceKeysView}
 use Rattle.tf_graph.proofs.Solving.{seen_by-same, solution-unique}
 use Rattle.tf_graph.specs.Digraph.{predecessors_of}
 use Rattle.tf_graph.specs.Solutions.{Ranked, Solves, seen_by}
@@ -32,7 +32,7 @@ use Rattle.tf_walk_report.specs.OutputsTold.{output_excuses, output_excuses_at}
 use Rattle.tf_walk_names.specs.Resolving.{is_resource}
 use Rattle.tf_expr_syntax.specs.ExprNames.{named_by}
 use Rattle.tf_expr_syntax.specs.ExprTree as expr
-use Rattle.tf_value.specs.Tree.{Entries, Tree}
+use Rattle.tf_value_data.specs.Tree.{Entries, Tree}
 use Rattle.tf_laws.proofs.ListsOfEntries.{all_got}
 use Rattle.tf_laws.specs.Founded.{IsFounded}
 

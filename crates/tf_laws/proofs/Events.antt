@@ -15,13 +15,13 @@ use Rattle.tf_state_next.proofs.Finding.{found_holds, found_joined}
 use Rattle.tf_state_next.specs.Events.{ApplyView, DestroyView, MetadataUpdateView, apply_of_instance, as_apply, is_instance, left_of_deposed, left_of_object}
 use Rattle.tf_walk_action.specs.Objects.{object_of}
 use Rattle.tf_walk_action.specs.Outcome.{ActionResultView, done_at}
-use Rattle.tf_plan.proofs.Objects.{one_key}
+use Rattle.tf_plan_planner.proofs.Objects.{one_key}
 use Rattle.tf_plan_data.specs.Fits.{deposed_key, is_apply}
 use Rattle.tf_plan_data.specs.Plan.{PlanView}
 use Rattle.tf_provider_protocol.specs.Meaning.{Meaning}
 use Rattle.tf_state_next.specs.After.{destroy_under, object_at}
 use Rattle.tf_state_next.specs.Ends.{ApplyResultView, RecordInputView, LeftView, gone, saved, unplanned}
-use Rattle.tf_value.proofs.Conjunction.{and-both, and-first, and-second}
+use Rattle.tf_value_data.proofs.Conjunction.{and-both, and-first, and-second}
 use Rattle.tf_laws.proofs.Lists.{nothing_in}
 use Rattle.tf_laws.proofs.Members.{same_key}
 use Rattle.tf_laws.proofs.Well.{IsDoneWell}

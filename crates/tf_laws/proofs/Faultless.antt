@@ -1,10 +1,10 @@
 -- Of texts that were read nothing is told but of the state.
 use Rattle.std.proofs.Common.{◌≡◌, ◌∙◌, ℕ, true, false, List, [], ◌∷◌, Option, Some, None, IsTrue, inl, inr, refl, sym, subst, arith}
 use Rattle.serde_json.specs.Data.{Data}
-use Rattle.tf_config.proofs.RefusalLaws.{apart}
-use Rattle.tf_config.specs.Demand.{AreMet, IsMet, Fails}
-use Rattle.tf_config.specs.Laws.{RefusedIsNotRead}
-use Rattle.tf_config.specs.Reading.{IsRefused}
+use Rattle.tf_config_json.proofs.RefusalLaws.{apart}
+use Rattle.tf_config_json.specs.Demand.{AreMet, IsMet, Fails}
+use Rattle.tf_config_json.specs.Laws.{RefusedIsNotRead}
+use Rattle.tf_config_json.specs.Reading.{IsRefused}
 use Rattle.tf_config_data.specs.Config.{ConfigView, VariableView}
 use Rattle.tf_config_data.specs.Names.{NameView, names_of}
 use Rattle.tf_graph.proofs.Edges.{contains_head}
@@ -18,11 +18,11 @@ use Rattle.tf_config_names.specs.Needs.{AreCyclic, Needs}
 use Rattle.tf_config_refusal.specs.declared.code.Code.{Code}
 use Rattle.tf_config_refusal.specs.Refusal.{RefusalView, fault, no_memory, workers}
 use Rattle.tf_expr_syntax.specs.TemplateNames.{Pair}
-use Rattle.tf_config.specs.VariableLaws.{ValuesAreFaultless}
-use Rattle.tf_config.specs.VariablesRead.{IsFaulty, IsFile, IsFileOf, IsNoFile, IsRefusedAs, is_object}
-use Rattle.tf_config.specs.VariablesRead as variables
-use Rattle.tf_config.specs.Values.{HasNone, file_checks, value_checks}
-use Rattle.tf_value.specs.Tree.{Entries}
+use Rattle.tf_config_json.specs.VariableLaws.{ValuesAreFaultless}
+use Rattle.tf_config_json.specs.VariablesRead.{IsFaulty, IsFile, IsFileOf, IsNoFile, IsRefusedAs, is_object}
+use Rattle.tf_config_json.specs.VariablesRead as variables
+use Rattle.tf_config_json.specs.Values.{HasNone, file_checks, value_checks}
+use Rattle.tf_value_data.specs.Tree.{Entries}
 use Rattle.tf_laws.proofs.Reading.{one_tree}
 
 -- ---- the configuration

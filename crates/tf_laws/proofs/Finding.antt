@@ -5,20 +5,20 @@ use Rattle.tf_plan_data.specs.Action.{ActionView}
 use Rattle.tf_config_data.specs.Config.{ConfigView}
 use Rattle.tf_config_data.specs.Names.{NameView, directly_before, meant_at, names_of}
 use Rattle.tf_plan_decision.specs.Stage.{deciding}
-use Rattle.tf_expand.specs.InstanceKeys.{InstanceKeysView, one}
-use Rattle.tf_expand.specs.Stages.{expansion}
-use Rattle.tf_expand.specs.Resolved.{ResolvedView, all_stand, environment}
-use Rattle.tf_expand.specs.declared.repetition.RepetitionFault.{RepetitionFault}
-use Rattle.tf_expand.specs.Expanding.{expanded, instances_before, max_instances}
+use Rattle.tf_expand_keys.specs.InstanceKeys.{InstanceKeysView, one}
+use Rattle.tf_expand_keys.specs.Stages.{expansion}
+use Rattle.tf_expand_keys.specs.Resolved.{ResolvedView, all_stand, environment}
+use Rattle.tf_expand_keys.specs.declared.repetition.RepetitionFault.{RepetitionFault}
+use Rattle.tf_expand_keys.specs.Expanding.{expanded, instances_before, max_instances}
 use Rattle.tf_graph.specs.Solutions.{seen_by}
 use Rattle.tf_config_names.specs.Needs.{IsAcyclic, IsDependence, needs_in}
 use Rattle.tf_config_names.specs.declared.dependence.Dependence.{Dependence}
-use Rattle.tf_plan.proofs.Existing.{some_standings}
-use Rattle.tf_plan.proofs.Refusing.{refused_block}
-use Rattle.tf_plan.specs.Ordered.{AreTied, action_pairs, max_pairs, stored_graph}
-use Rattle.tf_plan.specs.Plan.{IsPlan, max_actions}
-use Rattle.tf_plan.specs.Planned.{AreInstances, IsPlanned, PlannedView, planned_in, unrefused}
-use Rattle.tf_plan.specs.Refused.{AreRefused, beyond_limit, instances_refusal}
+use Rattle.tf_plan_planner.proofs.Existing.{some_standings}
+use Rattle.tf_plan_planner.proofs.Refusing.{refused_block}
+use Rattle.tf_plan_planner.specs.Ordered.{AreTied, action_pairs, max_pairs, stored_graph}
+use Rattle.tf_plan_planner.specs.Plan.{IsPlan, max_actions}
+use Rattle.tf_plan_planner.specs.Planned.{AreInstances, IsPlanned, PlannedView, planned_in, unrefused}
+use Rattle.tf_plan_planner.specs.Refused.{AreRefused, beyond_limit, instances_refusal}
 use Rattle.tf_plan_data.specs.Plan.{PlanView}
 use Rattle.tf_plan_order.specs.Late.{IsLate}
 use Rattle.tf_plan_order.specs.Stored.{Needed}
@@ -30,7 +30,7 @@ use Rattle.tf_plan_order.specs.Marks.{is_marked}
 use Rattle.tf_plan_order.specs.ResourceIndex.{numbered}
 use Rattle.tf_state_data.specs.Resource.{ResourceView}
 use Rattle.tf_state_data.specs.State.{StateView}
-use Rattle.tf_value.specs.Tree.{Entries}
+use Rattle.tf_value_data.specs.Tree.{Entries}
 use Rattle.tf_laws.proofs.Leading.{decided_late, decided_path, tested}
 use Rattle.tf_laws.proofs.Sorting.{some_order}
 use Rattle.tf_laws.proofs.Telling.{some_dependence}

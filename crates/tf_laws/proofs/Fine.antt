@@ -8,20 +8,20 @@ use Rattle.tf_config_data.specs.Names.{NameView, a_block, directly_before, meant
 use Rattle.tf_plan_decision.specs.Outcome.{orphan_outcome}
 use Rattle.tf_plan_decision.specs.Stage.{deciding}
 use Rattle.tf_plan_decision.specs.Whole.{decided, nothing_decided}
-use Rattle.tf_expand.specs.InstanceKeys.{InstanceKeysView}
-use Rattle.tf_expand.specs.Resolved.{ResolvedView, AreResolvedNames}
+use Rattle.tf_expand_keys.specs.InstanceKeys.{InstanceKeysView}
+use Rattle.tf_expand_keys.specs.Resolved.{ResolvedView, AreResolvedNames}
 use Rattle.tf_graph.specs.Solutions.{Ranked}
 use Rattle.tf_plan_order.specs.Members.{members}
-use Rattle.tf_plan.proofs.Listing.{decided-actions, place_actions}
-use Rattle.tf_plan.proofs.Solved.{planned-by}
-use Rattle.tf_plan.specs.Outputs.{output_refusals}
-use Rattle.tf_plan.specs.Planned.{IsPlanned, PlannedView, planned_in, unrefused}
-use Rattle.tf_plan.specs.Told.{instance_told}
+use Rattle.tf_plan_planner.proofs.Listing.{decided-actions, place_actions}
+use Rattle.tf_plan_planner.proofs.Solved.{planned-by}
+use Rattle.tf_plan_planner.specs.Outputs.{output_refusals}
+use Rattle.tf_plan_planner.specs.Planned.{IsPlanned, PlannedView, planned_in, unrefused}
+use Rattle.tf_plan_planner.specs.Told.{instance_told}
 use Rattle.tf_provider_protocol.specs.Meaning.{Meaning, schema_in}
 use Rattle.tf_plan_order.specs.ResourceIndex.{ResourceRefView, a_name, an_orphan, numbered}
 use Rattle.tf_state_data.specs.Resource.{ResourceView}
 use Rattle.tf_expr_syntax.specs.ExprTree as expr
-use Rattle.tf_value.specs.Tree.{Entries}
+use Rattle.tf_value_data.specs.Tree.{Entries}
 use Rattle.tf_laws.proofs.Decided.{IsFine, IsNumberedFine, IsMeantFine, all_fine}
 use Rattle.tf_laws.proofs.Lists.{all_contained, map_none}
 use Rattle.tf_laws.proofs.Places.{block_looked_at, name_at, orphan_looked_at}

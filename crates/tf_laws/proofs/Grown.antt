@@ -21,12 +21,12 @@ use Rattle.tf_plan_object.proofs.Keeping.{updates_named}
 use Rattle.tf_plan_decision.specs.Decision as decision
 use Rattle.tf_plan_decision.specs.Decision.{DecisionView, change, current}
 use Rattle.tf_plan_object.specs.Kept.{kept_object}
-use Rattle.tf_expand.proofs.Refining.{together_grows}
-use Rattle.tf_expand.proofs.Seen.{agree_on, same_seen}
-use Rattle.tf_expand.specs.StandingLaws.{Grows, HaveGrown, ResolvedNamesGrow}
-use Rattle.tf_expand.specs.InstanceKeys.{InstanceKeysView, instance_keys}
-use Rattle.tf_expand.specs.Stages.{applying}
-use Rattle.tf_expand.specs.Resolved.{ResolvedView, AreResolvedNames, environment, environment_at, result_in, together}
+use Rattle.tf_expand_keys.proofs.Refining.{together_grows}
+use Rattle.tf_expand_keys.proofs.Seen.{agree_on, same_seen}
+use Rattle.tf_expand_keys.specs.StandingLaws.{Grows, HaveGrown, ResolvedNamesGrow}
+use Rattle.tf_expand_keys.specs.InstanceKeys.{InstanceKeysView, instance_keys}
+use Rattle.tf_expand_keys.specs.Stages.{applying}
+use Rattle.tf_expand_keys.specs.Resolved.{ResolvedView, AreResolvedNames, environment, environment_at, result_in, together}
 use Rattle.tf_expr_eval.proofs.Locality.{expressions_local}
 use Rattle.tf_expr_eval.specs.Environment.{RefinesTo}
 use Rattle.tf_expr_eval.specs.Locality.{AgreeOn}
@@ -36,7 +36,7 @@ use Rattle.tf_plan_order.specs.Members.{is_among}
 use Rattle.tf_walk_action.specs.Asked.{asked_by_step, create_of, ignored_by, update_of}
 use Rattle.tf_walk_action.specs.Objects.{object_of as answered_of}
 use Rattle.tf_walk_action.specs.Outcome.{done_at, objects_by}
-use Rattle.tf_plan.proofs.Distinct.{at-contained, in_flat_map}
+use Rattle.tf_plan_planner.proofs.Distinct.{at-contained, in_flat_map}
 use Rattle.tf_plan_data.specs.Fits.{is_apply}
 use Rattle.tf_plan_data.specs.Plan.{plan_names}
 use Rattle.tf_provider_protocol.specs.Meaning.{Asked, schema_in}
@@ -44,9 +44,9 @@ use Rattle.tf_provider_protocol.specs.Schema.{SchemaView}
 use Rattle.tf_provider_protocol.specs.Verdict.{has_attributes, is_good_verdict, verdict_on_object}
 use Rattle.tf_walk_report.specs.Report.{objects_after}
 use Rattle.tf_state_data.specs.Record.{RecordView}
-use Rattle.tf_value.proofs.Order.{Refines-refl, Refines-trans}
-use Rattle.tf_value.specs.Refinement.{Refines}
-use Rattle.tf_value.specs.Tree.{Tree}
+use Rattle.tf_value_data.proofs.Order.{Refines-refl, Refines-trans}
+use Rattle.tf_value_data.specs.Refinement.{Refines}
+use Rattle.tf_value_data.specs.Tree.{Tree}
 use Rattle.tf_laws.proofs.After.{IsKept, IsMade, call_at_index, in_deposed, kept_at}
 use Rattle.tf_walk_report.proofs.Apart.{apply_is_current}
 use Rattle.tf_laws.proofs.Answers.{good_refines}

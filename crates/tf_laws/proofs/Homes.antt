@@ -10,11 +10,11 @@ use Rattle.tf_plan_object.specs.Laws.{InstancesGrow}
 use Rattle.tf_config_data.specs.Config.{BlockView, ConfigView}
 use Rattle.tf_config_data.specs.Names.{a_block, directly_before, addr_pair, meant_at, names_of}
 use Rattle.tf_plan_decision.specs.Stage.{records_at}
-use Rattle.tf_expand.proofs.Refining.{followed}
-use Rattle.tf_expand.specs.StandingLaws.{ResolvedNamesGrow}
-use Rattle.tf_expand.specs.InstanceKeys.{InstanceKeysView, instance_keys}
-use Rattle.tf_expand.specs.Stages.{applying}
-use Rattle.tf_expand.specs.Resolved.{rule}
+use Rattle.tf_expand_keys.proofs.Refining.{followed}
+use Rattle.tf_expand_keys.specs.StandingLaws.{ResolvedNamesGrow}
+use Rattle.tf_expand_keys.specs.InstanceKeys.{InstanceKeysView, instance_keys}
+use Rattle.tf_expand_keys.specs.Stages.{applying}
+use Rattle.tf_expand_keys.specs.Resolved.{rule}
 use Rattle.tf_graph.proofs.Edges.{contains_cases}
 use Rattle.tf_graph.proofs.Solving.{solution-exists}
 use Rattle.tf_graph.specs.Solutions.{Ranked}
@@ -23,12 +23,12 @@ use Rattle.tf_state_next.proofs.Changing.{found_addr}
 use Rattle.tf_state_next.specs.Laws.{IsInOrder}
 use Rattle.tf_state_next.specs.StateAfter.{has_records}
 use Rattle.tf_walk_action.specs.Outcome.{ActionResultView}
-use Rattle.tf_plan.proofs.Blocks.{names-apart}
-use Rattle.tf_plan.specs.Ordered.{AreTied}
-use Rattle.tf_plan.specs.Plan.{IsPlan}
-use Rattle.tf_plan.proofs.Solved.{same_shapes}
-use Rattle.tf_plan.proofs.Tied.{block_found}
-use Rattle.tf_plan.specs.Planned.{AreInstances}
+use Rattle.tf_plan_planner.proofs.Blocks.{names-apart}
+use Rattle.tf_plan_planner.specs.Ordered.{AreTied}
+use Rattle.tf_plan_planner.specs.Plan.{IsPlan}
+use Rattle.tf_plan_planner.proofs.Solved.{same_shapes}
+use Rattle.tf_plan_planner.proofs.Tied.{block_found}
+use Rattle.tf_plan_planner.specs.Planned.{AreInstances}
 use Rattle.tf_plan_data.specs.Plan.{PlanView}
 use Rattle.tf_plan_order.specs.OrderInput.{OrderInputView}
 use Rattle.tf_provider_protocol.specs.Meaning.{Meaning}
@@ -40,7 +40,7 @@ use Rattle.tf_state_next.specs.After.{object_at, renewed}
 use Rattle.tf_state_data.specs.Record.{RecordView}
 use Rattle.tf_state_data.specs.Resource.{ResourceView, record_at}
 use Rattle.tf_state_data.specs.State.{StateView, record_in, resource_at}
-use Rattle.tf_value.specs.Tree.{Tree, Entries}
+use Rattle.tf_value_data.specs.Tree.{Tree, Entries}
 use Rattle.tf_laws.proofs.Anew.{given_anew}
 use Rattle.tf_laws.proofs.Declared.{found_contains, has_stands}
 use Rattle.tf_laws.proofs.Lists.{all_contained, nothing_in, to_filter}

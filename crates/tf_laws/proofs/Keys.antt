@@ -12,17 +12,17 @@ use Rattle.tf_laws.proofs.Members.{among_holds}
 use Rattle.tf_laws.proofs.Places.{meant_within}
 use Rattle.tf_laws.proofs.Still.{all_there}
 use Rattle.tf_plan_decision.specs.Stage.{all_can_go, decided_object, deciding}
-use Rattle.tf_expand.proofs.Locals.{instances_local}
-use Rattle.tf_expand.proofs.Places.{all_places, names_stay}
-use Rattle.tf_expand.proofs.Refining.{same_keys, together_grows}
-use Rattle.tf_expand.proofs.Seen.{agree_on, same_seen}
-use Rattle.tf_expand.specs.Instance.{instance_environment}
-use Rattle.tf_expand.specs.StandingLaws.{Grows, HaveGrown, InstancesStay, ResolvedNamesAreOne, ResolvedNamesGrow}
-use Rattle.tf_expand.specs.Repetition.{instances, keyed, or_bad_for_each}
-use Rattle.tf_expand.specs.InstanceKeys.{InstanceKeysView, instance_keys, named}
-use Rattle.tf_expand.specs.Stages.{applying, expansion, fine}
-use Rattle.tf_expand.specs.Resolved.{ResolvedView, AreResolvedNames, all_stand, environment, environment_at, result_in, together}
-use Rattle.tf_expand.specs.declared.repetition.RepetitionFault.{RepetitionFault}
+use Rattle.tf_expand_keys.proofs.Locals.{instances_local}
+use Rattle.tf_expand_keys.proofs.Places.{all_places, names_stay}
+use Rattle.tf_expand_keys.proofs.Refining.{same_keys, together_grows}
+use Rattle.tf_expand_keys.proofs.Seen.{agree_on, same_seen}
+use Rattle.tf_expand_keys.specs.Instance.{instance_environment}
+use Rattle.tf_expand_keys.specs.StandingLaws.{Grows, HaveGrown, InstancesStay, ResolvedNamesAreOne, ResolvedNamesGrow}
+use Rattle.tf_expand_keys.specs.Repetition.{instances, keyed, or_bad_for_each}
+use Rattle.tf_expand_keys.specs.InstanceKeys.{InstanceKeysView, instance_keys, named}
+use Rattle.tf_expand_keys.specs.Stages.{applying, expansion, fine}
+use Rattle.tf_expand_keys.specs.Resolved.{ResolvedView, AreResolvedNames, all_stand, environment, environment_at, result_in, together}
+use Rattle.tf_expand_keys.specs.declared.repetition.RepetitionFault.{RepetitionFault}
 use Rattle.tf_expr_eval.proofs.Locality.{both_halves, expressions_local}
 use Rattle.tf_expr_eval.specs.Constants.{ConstantView}
 use Rattle.tf_expr_eval.specs.Environment.{Environment}
@@ -30,8 +30,8 @@ use Rattle.tf_expr_eval.specs.ExprMeaning.{meaning}
 use Rattle.tf_expr_eval.specs.Growth.{ExprKnowledgeGrows}
 use Rattle.tf_expr_eval.specs.Locality.{AgreeOn}
 use Rattle.tf_expr_eval.specs.Meaning.{and_then}
-use Rattle.tf_expand.specs.Expanding.{shape_in}
-use Rattle.tf_expand.specs.ExpansionLaws.{AllStandWhereNoneIsRefused}
+use Rattle.tf_expand_keys.specs.Expanding.{shape_in}
+use Rattle.tf_expand_keys.specs.ExpansionLaws.{AllStandWhereNoneIsRefused}
 use Rattle.tf_graph.proofs.Edges.{all_by_contained}
 use Rattle.tf_graph.proofs.Solving.{all_by_at}
 use Rattle.tf_graph.specs.Solutions.{seen_by}
@@ -45,8 +45,8 @@ use Rattle.tf_provider_protocol.specs.Meaning.{Asked}
 use Rattle.tf_provider_protocol.specs.Schema.{SchemaView}
 use Rattle.tf_expr_syntax.specs.ExprNames.{named_below}
 use Rattle.tf_expr_syntax.specs.ExprTree as expr
-use Rattle.tf_value.specs.Refinement.{Refines}
-use Rattle.tf_value.specs.Tree.{Tree, map, set, unknown, keys_of}
+use Rattle.tf_value_data.specs.Refinement.{Refines}
+use Rattle.tf_value_data.specs.Tree.{Tree, map, set, unknown, keys_of}
 use Rattle.tf_laws.proofs.Instance.{IsOfInstance, of_instance}
 use Rattle.tf_laws.proofs.PlannedParts.{Made, made}
 use Rattle.tf_laws.specs.Instances.{HasPlannedKeys, HavePlannedInstances, InstancesAreExpanded, InstancesStayInApplies, InstancesStayInPlans, KeysStayInPlans, KeysStayInRequests}

@@ -2,10 +2,10 @@
 use Rattle.std.proofs.Common.{◌≡◌, ◌∙◌, ℕ, ℤ, pos, Bool, true, false, Option, Some, None, List, [], ◌∷◌, Result, Ok, Err, refl, ap, subst, if◌then◌else◌, ◌&&◌, nat_le, nat_lt, ◌^◌}
 use Rattle.tf_expr_syntax.specs.ExprTree as exprs
 use Rattle.tf_expr_syntax.specs.TemplateTree as syntax
-use Rattle.tf_value.specs.Known.{known, known_items, known_entries}
-use Rattle.tf_value.specs.Measure.{weight, depth, max_weight, max_depth}
-use Rattle.tf_value.specs.Tree.{Tree, null, boolean, whole, text, unknown, Items, no_items, item, Entries, no_entries, entry, items_of}
-use Rattle.tf_value.proofs.Conjunction.{and-first, and-second, and-both}
+use Rattle.tf_value_data.specs.Known.{known, known_items, known_entries}
+use Rattle.tf_value_data.specs.Measure.{weight, depth, max_weight, max_depth}
+use Rattle.tf_value_data.specs.Tree.{Tree, null, boolean, whole, text, unknown, Items, no_items, item, Entries, no_entries, entry, items_of}
+use Rattle.tf_value_data.proofs.Conjunction.{and-first, and-second, and-both}
 use Rattle.tf_expr_operators.specs.Answer.{Answer, limited, item_behind, items_behind, list_value, map_value}
 use Rattle.tf_expr_operators.specs.Functions.{call_value}
 use Rattle.tf_expr_syntax.specs.Function.{takes, function_named}

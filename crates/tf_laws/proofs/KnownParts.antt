@@ -1,10 +1,10 @@
 -- What is known at a name stands at it in each value that this one refines to.
 use Rattle.std.proofs.Common.{◌≡◌, ℕ, Bool, true, false, if◌then◌else◌, List, Option, Some, sym, ap}
 use Rattle.std.specs.Str.{bytes_eq}
-use Rattle.tf_value.specs.Known.{known}
-use Rattle.tf_value.specs.Laws.{KnownStays}
-use Rattle.tf_value.specs.Refinement.{Refines, RefinesEntries}
-use Rattle.tf_value.specs.Tree.{Tree, Entries, no_entries, entry, map, get, part_at}
+use Rattle.tf_value_data.specs.Known.{known}
+use Rattle.tf_value_data.specs.Laws.{KnownStays}
+use Rattle.tf_value_data.specs.Refinement.{Refines, RefinesEntries}
+use Rattle.tf_value_data.specs.Tree.{Tree, Entries, no_entries, entry, map, get, part_at}
 
 pick_known : KnownStays → (here : Bool) (t u : Tree) (rest others : Option Tree) (v : Tree) → Refines t u → (rest ≡ Some v → others ≡ Some v) → known v ≡ true
     → (if here then Some t else rest) ≡ Some v → (if here then Some u else others) ≡ Some v

@@ -12,17 +12,17 @@ use Rattle.tf_config_address.specs.ObjectId.{InstanceKeyView}
 use Rattle.tf_config_data.specs.Config.{BlockView}
 use Rattle.tf_config_data.specs.Names.{NameView, Meant, a_local, a_block, meant_at, directly_before, place_of}
 use Rattle.tf_plan_decision.proofs.Equal.{known_at}
-use Rattle.tf_expand.proofs.Places.{IsPlaceBelow, along, names_stay, place_below}
-use Rattle.tf_expand.proofs.Refining.{limited_is, mapped}
-use Rattle.tf_expand.specs.InstanceKeys.{InstanceKeysView, one, many, named, instance_keys, collected, list_of, map_under, objects_at, put_each}
-use Rattle.tf_expand.specs.Stages.{applying}
-use Rattle.tf_expand.specs.Resolved.{ResolvedView, AreResolvedNames, all_stand, answer_at, environment, or_missing, result_in, stands_at, together, where_all}
+use Rattle.tf_expand_keys.proofs.Places.{IsPlaceBelow, along, names_stay, place_below}
+use Rattle.tf_expand_keys.proofs.Refining.{limited_is, mapped}
+use Rattle.tf_expand_keys.specs.InstanceKeys.{InstanceKeysView, one, many, named, instance_keys, collected, list_of, map_under, objects_at, put_each}
+use Rattle.tf_expand_keys.specs.Stages.{applying}
+use Rattle.tf_expand_keys.specs.Resolved.{ResolvedView, AreResolvedNames, all_stand, answer_at, environment, or_missing, result_in, stands_at, together, where_all}
 use Rattle.tf_graph.specs.Solutions.{Ranked, seen_by}
 use Rattle.tf_plan_order.specs.Members.{is_among}
 use Rattle.tf_expr_operators.specs.Answer.{Answer, limited, present_value}
-use Rattle.tf_value.proofs.Conjunction.{and-both, and-first, and-second}
-use Rattle.tf_value.specs.Known.{known, known_entries, known_items}
-use Rattle.tf_value.specs.Tree.{Tree, Entries, no_entries, entry, get, items_of, put}
+use Rattle.tf_value_data.proofs.Conjunction.{and-both, and-first, and-second}
+use Rattle.tf_value_data.specs.Known.{known, known_entries, known_items}
+use Rattle.tf_value_data.specs.Tree.{Tree, Entries, no_entries, entry, get, items_of, put}
 use Rattle.tf_laws.proofs.Members.{all_among}
 use Rattle.tf_laws.specs.Known.{ExpressionsStayKnown, IsKnown}
 

@@ -7,8 +7,8 @@ use Rattle.tf_graph.proofs.Edges.{contains_cases, contains_head, contains_tail}
 use Rattle.tf_graph.specs.Digraph.{Digraph}
 use Rattle.tf_graph.specs.NodeSet.{has}
 use Rattle.tf_graph.specs.Path.{Path, direct, joined, onward}
-use Rattle.tf_plan.proofs.Distinct.{in_map, to_map}
-use Rattle.tf_plan.proofs.Tied.{path_too}
+use Rattle.tf_plan_planner.proofs.Distinct.{in_map, to_map}
+use Rattle.tf_plan_planner.proofs.Tied.{path_too}
 use Rattle.tf_plan_order.specs.Late.{IsLate, Leads}
 use Rattle.tf_plan_order.specs.Stored.{DependsOn, turned}
 

@@ -7,10 +7,10 @@ use Rattle.tf_config_address.specs.Same.{object_id_Decides, same_instance_key}
 use Rattle.tf_plan_order.proofs.Known.{among-recorded, among-with}
 use Rattle.tf_plan_order.specs.Members.{InstanceToPlanView, all_keys, is_among, is_of, is_recorded, member, members, recorded_keys, with_keys}
 use Rattle.tf_graph.proofs.Edges.{contains_cases, contains_head, contains_tail}
-use Rattle.tf_plan.proofs.Distinct.{in_map, to_map}
-use Rattle.tf_plan.proofs.Objects.{one_key}
+use Rattle.tf_plan_planner.proofs.Distinct.{in_map, to_map}
+use Rattle.tf_plan_planner.proofs.Objects.{one_key}
 use Rattle.tf_state_data.specs.Record.{RecordView}
-use Rattle.tf_value.proofs.Conjunction.{and-first}
+use Rattle.tf_value_data.proofs.Conjunction.{and-first}
 use Rattle.tf_laws.proofs.Lists.{nothing_in, or_first, or_second}
 
 pub same_key : (k : InstanceKeyView) → same_instance_key k k ≡ true

@@ -2,14 +2,14 @@
 use Rattle.std.proofs.Common.{◌≡◌, ◌∙◌, ℕ, Bool, true, Option, Some, None, Contains, refl, sym, ap}
 use Rattle.tf_config_address.specs.ObjectId.{InstanceKeyView}
 use Rattle.tf_config_data.specs.Names.{Meant, a_local, a_block, directly_before}
-use Rattle.tf_expand.specs.InstanceKeys.{InstanceKeysView, instance_keys}
-use Rattle.tf_expand.specs.Stages.{applying}
-use Rattle.tf_expand.specs.Resolved.{stands_at}
+use Rattle.tf_expand_keys.specs.InstanceKeys.{InstanceKeysView, instance_keys}
+use Rattle.tf_expand_keys.specs.Stages.{applying}
+use Rattle.tf_expand_keys.specs.Resolved.{stands_at}
 use Rattle.tf_expr_eval.specs.Environment.{Environment}
-use Rattle.tf_plan.specs.Ordered.{IsOrdered}
+use Rattle.tf_plan_planner.specs.Ordered.{IsOrdered}
 use Rattle.tf_plan_data.specs.Plan.{PlanView, plan_names}
 use Rattle.tf_plan_order.specs.Members.{is_among}
-use Rattle.tf_value.specs.Tree.{Tree}
+use Rattle.tf_value_data.specs.Tree.{Tree}
 use Rattle.tf_laws.proofs.Still.{together_same}
 
 -- where the objects of a resource's instances are the same, so is what the resource stands for

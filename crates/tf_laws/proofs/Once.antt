@@ -7,14 +7,14 @@ use Rattle.std.specs.Ordering.{nat_cmp}
 use Rattle.serde_json.specs.Data.{Data, null, boolean, number, string, array, object, Items, no_items, item, Members, no_members, member}
 use Rattle.tf_laws.proofs.Faultless.{is_file, names_known}
 use Rattle.tf_laws.proofs.Reading.{one_tree}
-use Rattle.tf_config.proofs.RefusalLaws.{apart}
-use Rattle.tf_config.specs.Demand.{AreMet, Checks, Demand, Fails, IsMet, Refuses, holds, nothing_fits, of_expression}
-use Rattle.tf_config.specs.Laws.{RefusedOnce}
-use Rattle.tf_config.specs.Parts.{item_number_checks, member_number_checks, number_checks}
-use Rattle.tf_config.specs.Reading as config
+use Rattle.tf_config_json.proofs.RefusalLaws.{apart}
+use Rattle.tf_config_json.specs.Demand.{AreMet, Checks, Demand, Fails, IsMet, Refuses, holds, nothing_fits, of_expression}
+use Rattle.tf_config_json.specs.Laws.{RefusedOnce}
+use Rattle.tf_config_json.specs.Parts.{item_number_checks, member_number_checks, number_checks}
+use Rattle.tf_config_json.specs.Reading as config
 use Rattle.tf_config_data.specs.Config.{ConfigView, VariableView}
 use Rattle.tf_config_data.specs.Names.{NameView, names_of}
-use Rattle.tf_expr.specs.Demand as expr
+use Rattle.tf_expr_json.specs.Demand as expr
 use Rattle.tf_cli_inputs.specs.Refusals.{fault_told}
 use Rattle.tf_cli_inputs.specs.Texts.{Texts}
 use Rattle.tf_config_refusal.proofs.Checks.{AllMet-append, IsFirst-same, IsFirst-unmet}
@@ -23,7 +23,7 @@ use Rattle.tf_config_names.specs.Cyclic.{RefusesCycle}
 use Rattle.tf_config_names.specs.Judging.{RefusesItsNames}
 use Rattle.tf_config_names.specs.KnownNames.{Declared, IsKnown, IsUnknown, NameChecks, RefusesNames, config_checks, declared_in}
 use Rattle.tf_config_names.specs.Needs.{AreCyclic}
-use Rattle.tf_expr.specs.Refusing.{way_of}
+use Rattle.tf_expr_json.specs.Refusing.{way_of}
 use Rattle.tf_config_refusal.specs.declared.code.Code.{Code}
 use Rattle.tf_config_refusal.specs.Refusal as refusals
 use Rattle.tf_config_refusal.specs.Refusal.{DetailView, RefusalView, fault, no_memory, workers, Way}
@@ -31,8 +31,8 @@ use Rattle.tf_state.proofs.Permuted.{one_order}
 use Rattle.tf_state.specs.Table.{IsUnread}
 use Rattle.tf_state.specs.declared.fault.StateFault.{StateFault}
 use Rattle.tf_state.specs.declared.fault.StateFault.TheVariants.{BadState, Limit, OutOfMemory}
-use Rattle.tf_config.specs.VariablesRead.{IsFaulty, IsNoFile, IsRefused, IsRefusedAs}
-use Rattle.tf_config.specs.Values.{HasNone, RefusesValues, file_checks, given, literal_at, value_checks}
+use Rattle.tf_config_json.specs.VariablesRead.{IsFaulty, IsNoFile, IsRefused, IsRefusedAs}
+use Rattle.tf_config_json.specs.Values.{HasNone, RefusesValues, file_checks, given, literal_at, value_checks}
 use Rattle.tf_laws.specs.Refusals.{TellTheSameFault}
 
 -- ---- the configuration's text

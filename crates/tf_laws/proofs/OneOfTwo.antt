@@ -1,7 +1,7 @@
 -- Of texts one of two holds.
 use Rattle.std.proofs.Common.{◌≡◌, ◌⊎◌, ℕ, Bool, true, false, List, [], ◌∷◌, inl, inr, refl, arith}
-use Rattle.tf_config.specs.Demand.{Checks}
-use Rattle.tf_config.specs.Laws.{NamesAreFew}
+use Rattle.tf_config_json.specs.Demand.{Checks}
+use Rattle.tf_config_json.specs.Laws.{NamesAreFew}
 use Rattle.tf_cli_inputs.specs.Texts.{Texts}
 use Rattle.tf_config_refusal.specs.Check.{AllMet}
 use Rattle.tf_laws.specs.Plans.{PlannedOrRefused}

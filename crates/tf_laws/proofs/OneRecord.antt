@@ -13,7 +13,7 @@ use Rattle.tf_plan_decision.specs.Decision.{current}
 use Rattle.tf_plan_order.specs.Members.{is_of, records_of}
 use Rattle.tf_state_next.proofs.Finding.{filtered_ordered, first, found_filtered, same_lists}
 use Rattle.tf_state_next.proofs.One.{id_one}
-use Rattle.tf_plan.proofs.Objects.{one_key}
+use Rattle.tf_plan_planner.proofs.Objects.{one_key}
 use Rattle.tf_state_next.proofs.Places.{apart, found_id, objects_tied}
 use Rattle.tf_state_next.specs.After.{object_at}
 use Rattle.tf_state_data.specs.Ids.{AreById}

@@ -6,8 +6,8 @@ use Rattle.tf_plan_data.specs.Precedence.{kind_of, ordered}
 use Rattle.tf_config_data.specs.Config.{BlockView}
 use Rattle.tf_config_data.specs.Names.{NameView, a_block, meant_at}
 use Rattle.tf_graph.specs.Digraph.{Digraph}
-use Rattle.tf_plan.proofs.Tied.{late_same, needed_same}
-use Rattle.tf_plan.specs.Ordered.{AreTied, IsOrdered, action_pairs}
+use Rattle.tf_plan_planner.proofs.Tied.{late_same, needed_same}
+use Rattle.tf_plan_planner.specs.Ordered.{AreTied, IsOrdered, action_pairs}
 use Rattle.tf_plan_data.specs.Fits.{IsDeclared, is_apply}
 use Rattle.tf_plan_order.specs.Before.{are_halves, is_before, is_before_by}
 use Rattle.tf_plan_order.specs.Order.{action_at, pair, pairs, pairs_into}

@@ -9,19 +9,19 @@ use Rattle.tf_config_data.specs.Names.{NameView, Meant, a_local, a_block, meant_
 use Rattle.tf_plan_decision.specs.Deciding.{OfView, action}
 use Rattle.tf_plan_decision.specs.Outcome.{OutcomeView, member_outcome, orphan_outcome}
 use Rattle.tf_plan_decision.specs.Stage.{block_members, deciding}
-use Rattle.tf_expand.specs.InstanceKeys.{InstanceKeysView}
-use Rattle.tf_expand.specs.Resolved.{ResolvedView, AreResolvedNames, all_stand, environment}
+use Rattle.tf_expand_keys.specs.InstanceKeys.{InstanceKeysView}
+use Rattle.tf_expand_keys.specs.Resolved.{ResolvedView, AreResolvedNames, all_stand, environment}
 use Rattle.tf_graph.proofs.Edges.{contains_cases, contains_head, contains_tail}
 use Rattle.tf_graph.specs.Solutions.{Ranked, seen_by}
 use Rattle.tf_plan_order.specs.Members.{InstanceToPlanView, members}
-use Rattle.tf_plan.proofs.Distinct.{in_flat_map, in_map, to_map}
-use Rattle.tf_plan.proofs.Listing.{block_actions, member_actions, meant_actions, of_at, outcome_actions, place_actions}
-use Rattle.tf_plan.specs.Planned.{IsPlanned, unrefused}
+use Rattle.tf_plan_planner.proofs.Distinct.{in_flat_map, in_map, to_map}
+use Rattle.tf_plan_planner.proofs.Listing.{block_actions, member_actions, meant_actions, of_at, outcome_actions, place_actions}
+use Rattle.tf_plan_planner.specs.Planned.{IsPlanned, unrefused}
 use Rattle.tf_provider_protocol.specs.Meaning.{Meaning, schema_in}
 use Rattle.tf_plan_order.specs.ResourceIndex.{ResourceRefView, a_name, an_orphan, numbered}
 use Rattle.tf_state_data.specs.Resource.{ResourceView}
 use Rattle.tf_expr_syntax.specs.ExprTree as expr
-use Rattle.tf_value.specs.Tree.{Entries}
+use Rattle.tf_value_data.specs.Tree.{Entries}
 use Rattle.tf_laws.proofs.Fine.{actions_are}
 use Rattle.tf_laws.proofs.Lists.{nothing_in, to_flat_map}
 use Rattle.tf_laws.proofs.Places.{at_name, block_looked_at, name_at, orphan_looked_at}

@@ -7,12 +7,12 @@ use Rattle.std.specs.Cmp.Lexicographic.{slice_cmp}
 use Rattle.std.specs.List.{AllByRecursion}
 use Rattle.std.specs.List.Sorted.{IsStrictlySortedBy}
 use Rattle.std.specs.Ordering.{match_ordering}
-use Rattle.tf_config.specs.Config.{names_in}
+use Rattle.tf_config_json.specs.Config.{names_in}
 use Rattle.tf_walk_outputs.specs.Outputs.{OutputResultView, excused, faulted, is_declared, is_null, kept_entries, not_evaluated, outputs_after, valued, with_output, with_outputs, without}
 use Rattle.tf_expr_syntax.specs.ExprTree as expr
-use Rattle.tf_value.proofs.Keys.{get-put, get-put_other}
-use Rattle.tf_value.proofs.Tables.{sorted-put}
-use Rattle.tf_value.specs.Tree.{Tree, Entries, entry, get, keys_of, no_entries, put}
+use Rattle.tf_value_data.proofs.Keys.{get-put, get-put_other}
+use Rattle.tf_value_data.proofs.Tables.{sorted-put}
+use Rattle.tf_value_data.specs.Tree.{Tree, Entries, entry, get, keys_of, no_entries, put}
 use Rattle.tf_laws.proofs.Lists.{or_first, or_second}
 
 -- ---- entries in byte order

@@ -8,7 +8,7 @@ use Rattle.tf_plan_order.specs.AddressOrder.{AreInAddressOrder, is_resource, res
 use Rattle.tf_config_data.specs.Config.{BlockView}
 use Rattle.tf_config_data.specs.Names.{NameView, Meant, a_block, meant_at}
 use Rattle.tf_plan_decision.proofs.Standing.{named_within}
-use Rattle.tf_plan.proofs.Distinct.{at-contained, in_filter, in_map}
+use Rattle.tf_plan_planner.proofs.Distinct.{at-contained, in_filter, in_map}
 use Rattle.tf_plan_order.proofs.Standing.{numbers-in_order}
 use Rattle.tf_plan_order.specs.ResourceIndex.{ResourceRefView, a_name, an_orphan, address_of, has_block, numbered, orphans}
 use Rattle.tf_state_data.specs.Resource.{ResourceView}

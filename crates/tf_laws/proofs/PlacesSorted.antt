@@ -12,8 +12,8 @@ use Rattle.tf_config_address.proofs.Totals.{addr_total}
 use Rattle.tf_config_address.specs.ResourceAddr.{ResourceAddrView, addr_cmp}
 use Rattle.tf_plan_order.specs.AddressOrder.{AreInAddressOrder, address_at, is_below, is_resource, resource_places}
 use Rattle.tf_graph.proofs.Edges.{all_by_contained}
-use Rattle.tf_plan.proofs.Distinct.{in_filter}
-use Rattle.tf_plan.proofs.Ranges.{places-distinct}
+use Rattle.tf_plan_planner.proofs.Distinct.{in_filter}
+use Rattle.tf_plan_planner.proofs.Ranges.{places-distinct}
 use Rattle.tf_plan_order.specs.ResourceLaws.{AreApart}
 use Rattle.tf_plan_order.specs.ResourceIndex.{ResourceRefView, address_of}
 use Rattle.tf_laws.proofs.Rising.{IsRising, one_list, rising}

@@ -12,10 +12,10 @@ use Rattle.tf_graph.specs.Digraph.{Digraph, predecessors_of}
 use Rattle.tf_graph.specs.Path.{Path, Reaches, direct, joined, onward}
 use Rattle.tf_graph.specs.Solutions.{Ranked, StaysBelow}
 use Rattle.tf_config_names.specs.Needs.{IsAcyclic}
-use Rattle.tf_plan.proofs.Blocks.{names-apart}
-use Rattle.tf_plan.proofs.Fitting.{AreFit, plan-fits}
-use Rattle.tf_plan.specs.Ordered.{IsOrdered, stored_graph}
-use Rattle.tf_plan.specs.Plan.{IsPlan}
+use Rattle.tf_plan_planner.proofs.Blocks.{names-apart}
+use Rattle.tf_plan_planner.proofs.Fitting.{AreFit, plan-fits}
+use Rattle.tf_plan_planner.specs.Ordered.{IsOrdered, stored_graph}
+use Rattle.tf_plan_planner.specs.Plan.{IsPlan}
 use Rattle.tf_plan_data.specs.Fits.{IsDeclared}
 use Rattle.tf_plan_data.specs.Plan.{PlanView}
 use Rattle.tf_plan_order.proofs.Listed.{pairs-order}
@@ -30,7 +30,7 @@ use Rattle.tf_plan_order.specs.ResourceIndex.{numbered}
 use Rattle.tf_state.specs.Valid.{IsPresent, IsValid}
 use Rattle.tf_state_data.specs.Ids.{AreById}
 use Rattle.tf_state_data.specs.State.{StateView}
-use Rattle.tf_value.specs.Tree.{Entries}
+use Rattle.tf_value_data.specs.Tree.{Entries}
 use Rattle.tf_laws.proofs.Lists.{all_weaker}
 use Rattle.tf_laws.specs.Founded.{IsFounded}
 use Rattle.tf_laws.specs.Planned.{PlansAreFounded}

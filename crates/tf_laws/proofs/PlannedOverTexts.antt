@@ -5,7 +5,7 @@ use Rattle.tf_plan_data.specs.Action.{ActionView}
 use Rattle.tf_cli.specs.Applies.{IsApplied, IsPlanOf, state_in}
 use Rattle.tf_cli_text.specs.Shown.{is_torn}
 use Rattle.tf_cli_text.specs.declared.applied.Applied.{Applied}
-use Rattle.tf_config.specs.Laws.{BlocksAreInOrder, StandsForOne}
+use Rattle.tf_config_json.specs.Laws.{BlocksAreInOrder, StandsForOne}
 use Rattle.tf_config_data.specs.Config.{ConfigView}
 use Rattle.tf_config_data.specs.Names.{directly_before, names_of}
 use Rattle.tf_laws.proofs.Read.{read_values_known}
@@ -16,7 +16,7 @@ use Rattle.tf_provider.specs.declared.journal.Entry.{Entry}
 use Rattle.tf_config_names.proofs.Rings.{places-acyclic}
 use Rattle.tf_config_names.specs.Needs.{IsAcyclic}
 use Rattle.tf_walk_action.specs.Journal.{IsOfAction}
-use Rattle.tf_plan.specs.Plan.{IsPlan, IsPlannedFrom}
+use Rattle.tf_plan_planner.specs.Plan.{IsPlan, IsPlannedFrom}
 use Rattle.tf_plan_data.specs.Plan.{PlanView, plan_names}
 use Rattle.tf_plan_text.specs.Text.{plan_text}
 use Rattle.tf_provider_protocol.specs.Meaning.{Meaning}
@@ -28,8 +28,8 @@ use Rattle.tf_walk.specs.Run.{IsRun}
 use Rattle.tf_state.specs.Laws.{EmptyIsValid, ReadIsValid}
 use Rattle.tf_state_data.specs.Resource.{ResourceView}
 use Rattle.tf_state_data.specs.State.{StateView}
-use Rattle.tf_value.specs.Tree.{Entries}
-use Rattle.tf_config.specs.VariableLaws.{ValuesAreOne}
+use Rattle.tf_value_data.specs.Tree.{Entries}
+use Rattle.tf_config_json.specs.VariableLaws.{ValuesAreOne}
 use Rattle.tf_laws.proofs.Reading.{one_config, one_values, prior_valid, read_in_order}
 use Rattle.tf_laws.proofs.Schemas.{schemas_in}
 use Rattle.tf_laws.specs.ReapplyTexts.{HaveSchemas, WentWell, no_changes}

@@ -10,16 +10,16 @@ use Rattle.tf_laws.proofs.Declared.{Setting}
 use Rattle.tf_laws.proofs.Lists.{all_weaker}
 use Rattle.tf_laws.proofs.OwnParts.{plan_from}
 use Rattle.tf_plan_decision.specs.Stage.{deciding}
-use Rattle.tf_expand.specs.Stages.{expansion}
-use Rattle.tf_expand.specs.Resolved.{ResolvedView, AreResolvedNames}
-use Rattle.tf_expand.specs.Expanding.{AreExpanded}
+use Rattle.tf_expand_keys.specs.Stages.{expansion}
+use Rattle.tf_expand_keys.specs.Resolved.{ResolvedView, AreResolvedNames}
+use Rattle.tf_expand_keys.specs.Expanding.{AreExpanded}
 use Rattle.tf_graph.specs.Solutions.{Ranked}
 use Rattle.tf_config_names.specs.Needs.{IsAcyclic}
-use Rattle.tf_plan.proofs.Blocks.{names-apart}
-use Rattle.tf_plan.proofs.Fitting.{AreFit, plan-fits}
-use Rattle.tf_plan.specs.Ordered.{IsOrdered}
-use Rattle.tf_plan.specs.Plan.{IsPlannedFrom}
-use Rattle.tf_plan.specs.Planned.{IsPlanned, unrefused}
+use Rattle.tf_plan_planner.proofs.Blocks.{names-apart}
+use Rattle.tf_plan_planner.proofs.Fitting.{AreFit, plan-fits}
+use Rattle.tf_plan_planner.specs.Ordered.{IsOrdered}
+use Rattle.tf_plan_planner.specs.Plan.{IsPlannedFrom}
+use Rattle.tf_plan_planner.specs.Planned.{IsPlanned, unrefused}
 use Rattle.tf_plan_data.specs.Plan.{PlanView, plan_names}
 use Rattle.tf_provider_protocol.specs.Meaning.{Meaning, schema_in}
 use Rattle.tf_provider_protocol.specs.Schema.{SchemaView, IsSchema}
@@ -29,7 +29,7 @@ use Rattle.tf_state.specs.Valid.{IsPresent, IsValid}
 use Rattle.tf_state_data.specs.Addresses.{AreByAddress}
 use Rattle.tf_state_data.specs.Ids.{AreById}
 use Rattle.tf_state_data.specs.State.{StateView}
-use Rattle.tf_value.specs.Tree.{Entries}
+use Rattle.tf_value_data.specs.Tree.{Entries}
 use Rattle.tf_laws.specs.Requests.{IsSoundPlan}
 
 pub record Made : Type 0 where

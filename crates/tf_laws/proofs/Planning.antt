@@ -8,8 +8,8 @@ use Rattle.tf_config_data.specs.Config.{ConfigView}
 use Rattle.tf_config_data.specs.Names.{names_of}
 use Rattle.tf_cli_inputs.specs.Texts.{ReadAs, Texts}
 use Rattle.tf_laws.specs.Plans.{AreOne, AreOrderly, PlanTextsAreOne, PlansAreNotRefused, PlansAreOne, RefusalsAreOne}
-use Rattle.tf_plan.specs.Plan.{IsPlan}
-use Rattle.tf_plan.specs.Refused.{AreRefused, AreRefusedOf}
+use Rattle.tf_plan_planner.specs.Plan.{IsPlan}
+use Rattle.tf_plan_planner.specs.Refused.{AreRefused, AreRefusedOf}
 use Rattle.tf_plan_data.specs.Plan.{PlanView}
 use Rattle.tf_plan_text.specs.Text.{plan_text}
 use Rattle.tf_provider_protocol.specs.Meaning.{Meaning}
@@ -18,7 +18,7 @@ use Rattle.tf_state.specs.Valid.{IsPresent}
 use Rattle.tf_state_data.specs.Ids.{AreById}
 use Rattle.tf_state_data.specs.Resource.{ResourceView}
 use Rattle.tf_state_data.specs.State.{StateView}
-use Rattle.tf_value.specs.Tree.{Entries}
+use Rattle.tf_value_data.specs.Tree.{Entries}
 use Rattle.tf_laws.proofs.Ranking.{names_ranked}
 use Rattle.tf_laws.specs.ReadingLaws.{Laws}
 use Rattle.tf_laws.specs.TextPlans.{AppliesShowThePlan, PlannedTextsAreNotRefused, RefusalsOfTextsAreOne, TextsHaveOnePlan, TextsHaveOnePlanApart, TextsShowOnePlan, from_state}

@@ -4,20 +4,20 @@ use Rattle.std.proofs.lemmas.Bool.{cases_lt}
 use Rattle.tf_plan_data.specs.Action.{ActionView}
 use Rattle.tf_config_data.specs.Config.{ConfigView}
 use Rattle.tf_config_data.specs.Names.{NameView, a_block, directly_before, addr_pair, meant_at, names_of, place_of}
-use Rattle.tf_expand.specs.InstanceKeys.{InstanceKeysView}
-use Rattle.tf_expand.specs.Resolved.{ResolvedView}
-use Rattle.tf_expand.specs.declared.repetition.RepetitionFault.{RepetitionFault}
-use Rattle.tf_expand.specs.Expanding.{IsFirstRefused, expanded}
+use Rattle.tf_expand_keys.specs.InstanceKeys.{InstanceKeysView}
+use Rattle.tf_expand_keys.specs.Resolved.{ResolvedView}
+use Rattle.tf_expand_keys.specs.declared.repetition.RepetitionFault.{RepetitionFault}
+use Rattle.tf_expand_keys.specs.Expanding.{IsFirstRefused, expanded}
 use Rattle.tf_graph.specs.Solutions.{Ranked}
-use Rattle.tf_plan.proofs.Blocks.{names-apart}
-use Rattle.tf_plan.proofs.Excluding.{no_fault, none_unexpanded, not_many}
-use Rattle.tf_plan.proofs.Fitting.{AreFit, plan-fits}
-use Rattle.tf_plan.proofs.Solved.{many-by, refused-by, same_shapes}
-use Rattle.tf_plan.proofs.Tied.{block_found, late_same, needs_same}
-use Rattle.tf_plan.specs.Ordered.{AreTied, action_pairs, max_pairs}
-use Rattle.tf_plan.specs.Plan.{IsPlan, max_actions}
-use Rattle.tf_plan.specs.Planned.{AreInstances, IsPlanned, PlannedView, unrefused}
-use Rattle.tf_plan.specs.Refused.{AreManyActions, AreManyInstances, AreManyPairs, AreRefused, AreUnexpanded, AreUnplanned, IsUnexpanded, IsUnplanned, beyond_limit, instances_refusal}
+use Rattle.tf_plan_planner.proofs.Blocks.{names-apart}
+use Rattle.tf_plan_planner.proofs.Excluding.{no_fault, none_unexpanded, not_many}
+use Rattle.tf_plan_planner.proofs.Fitting.{AreFit, plan-fits}
+use Rattle.tf_plan_planner.proofs.Solved.{many-by, refused-by, same_shapes}
+use Rattle.tf_plan_planner.proofs.Tied.{block_found, late_same, needs_same}
+use Rattle.tf_plan_planner.specs.Ordered.{AreTied, action_pairs, max_pairs}
+use Rattle.tf_plan_planner.specs.Plan.{IsPlan, max_actions}
+use Rattle.tf_plan_planner.specs.Planned.{AreInstances, IsPlanned, PlannedView, unrefused}
+use Rattle.tf_plan_planner.specs.Refused.{AreManyActions, AreManyInstances, AreManyPairs, AreRefused, AreUnexpanded, AreUnplanned, IsUnexpanded, IsUnplanned, beyond_limit, instances_refusal}
 use Rattle.tf_plan_data.specs.Plan.{PlanView}
 use Rattle.tf_plan_text.specs.Text.{plan_text}
 use Rattle.tf_plan_order.specs.OrderInput.{OrderInputView}
@@ -28,7 +28,7 @@ use Rattle.tf_plan_order.specs.ResourceLaws.{AreApart}
 use Rattle.tf_plan_order.specs.ResourceIndex.{a_name, numbered}
 use Rattle.tf_state_data.specs.State.{StateView}
 use Rattle.tf_expr_syntax.specs.TemplateNames.{Pair}
-use Rattle.tf_value.specs.Tree.{Entries}
+use Rattle.tf_value_data.specs.Tree.{Entries}
 use Rattle.tf_laws.proofs.Ordering.{BlocksNeedAlike, one_ordered, one_pairs}
 use Rattle.tf_laws.proofs.Shaped.{one_planned}
 use Rattle.tf_laws.specs.Plans.{AreOne, AreOrderly, PlansAreNotRefused, PlansAreOne, PlanTextsAreOne, RefusalsAreOne}

@@ -17,7 +17,7 @@ use Rattle.tf_state_next.specs.After.{current_after, deposed_anew, object_at, re
 use Rattle.tf_state_next.specs.Ends.{ApplyResultView, unplanned, unwanted}
 use Rattle.tf_state_data.specs.Record.{RecordView}
 use Rattle.tf_state_data.specs.State.{StateView, record_in}
-use Rattle.tf_value.specs.Tree.{Entries}
+use Rattle.tf_value_data.specs.Tree.{Entries}
 use Rattle.tf_laws.proofs.Events.{IsUnsaved, wanted_in}
 use Rattle.tf_laws.specs.Quiet.{IsRenewed, QuietAppliesKeepObjects}
 

@@ -9,24 +9,24 @@ use Rattle.std.specs.Prelude.{option_and_then}
 use Rattle.std.specs.Ordering.{match_ordering, ordering_reverse}
 use Rattle.serde_json.specs.Data.{Data}
 use Rattle.tf_config_address.specs.ResourceAddr.{addr_cmp}
-use Rattle.tf_config.proofs.BlockLaws.{blocks_in_order, object_keeps, put_all}
-use Rattle.tf_config.specs.Config.{Blocks, VariableBody, address_cmp, block_with, names_in, plain_config, plain_variable, put_variable, variable_with}
-use Rattle.tf_config.specs.Configuration.{AddsInVariable, AddsOfSection, AddsOutput, AddsResource, AddsSection, AddsType, AddsVariable, AddsVariableProperty, IsConfiguration}
-use Rattle.tf_config.specs.Words.{is_comment, is_type_name, section_of, variable_property_of}
+use Rattle.tf_config_json.proofs.BlockLaws.{blocks_in_order, object_keeps, put_all}
+use Rattle.tf_config_json.specs.Config.{Blocks, VariableBody, address_cmp, block_with, names_in, plain_config, plain_variable, put_variable, variable_with}
+use Rattle.tf_config_json.specs.Configuration.{AddsInVariable, AddsOfSection, AddsOutput, AddsResource, AddsSection, AddsType, AddsVariable, AddsVariableProperty, IsConfiguration}
+use Rattle.tf_config_json.specs.Words.{is_comment, is_type_name, section_of, variable_property_of}
 use Rattle.tf_config_data.specs.Config.{BlockView, ConfigView, VariableView}
 use Rattle.tf_config_data.specs.declared.variable.Element.{Element}
 use Rattle.tf_config_data.specs.declared.variable.Element.TheVariants as elements
 use Rattle.tf_config_data.specs.declared.variable.VariableType.{VariableType}
 use Rattle.tf_config_data.specs.declared.variable.VariableType.TheVariants as types
 use Rattle.tf_expr_syntax.specs.ExprTree as expr
-use Rattle.tf_value.proofs.Conjunction.{and-both, and-first, and-second}
+use Rattle.tf_value_data.proofs.Conjunction.{and-both, and-first, and-second}
 use Rattle.tf_value_json.specs.Json.{tree_from, value_from}
-use Rattle.tf_value.specs.Known.{known, known_entries, known_items}
-use Rattle.tf_value.specs.Scalar.{scalar_text}
-use Rattle.tf_value.specs.Tree as tree
-use Rattle.tf_value.specs.Tree.{Tree, Items, no_items, item, Entries, no_entries, entry}
-use Rattle.tf_config.specs.Types.{element_as, entries_as, fits, fitted, items_as, text_or, value_as}
-use Rattle.tf_config.specs.Values.{AreValues, given, taken_of}
+use Rattle.tf_value_data.specs.Known.{known, known_entries, known_items}
+use Rattle.tf_value_data.specs.Scalar.{scalar_text}
+use Rattle.tf_value_data.specs.Tree as tree
+use Rattle.tf_value_data.specs.Tree.{Tree, Items, no_items, item, Entries, no_entries, entry}
+use Rattle.tf_config_json.specs.Types.{element_as, entries_as, fits, fitted, items_as, text_or, value_as}
+use Rattle.tf_config_json.specs.Values.{AreValues, given, taken_of}
 use Rattle.tf_laws.specs.Read.{ReadHasOwnNames, ReadIsSound}
 use Rattle.tf_laws.specs.Twice.{HasOrderedOutputs, HasOwnNames}
 

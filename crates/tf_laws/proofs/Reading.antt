@@ -4,19 +4,19 @@ use Rattle.std.specs.List.{AllByRecursion}
 use Rattle.std.specs.List.Sorted.{IsStrictlySortedBy}
 use Rattle.serde_json.specs.Data.{Data}
 use Rattle.tf_config_address.specs.ResourceAddr.{addr_cmp}
-use Rattle.tf_config.specs.Config.{address_cmp}
-use Rattle.tf_config.specs.Configuration.{IsConfiguration}
-use Rattle.tf_config.specs.Laws.{BlocksAreInOrder, StandsForOne}
-use Rattle.tf_config.specs.Reading.{IsTree}
+use Rattle.tf_config_json.specs.Config.{address_cmp}
+use Rattle.tf_config_json.specs.Configuration.{IsConfiguration}
+use Rattle.tf_config_json.specs.Laws.{BlocksAreInOrder, StandsForOne}
+use Rattle.tf_config_json.specs.Reading.{IsTree}
 use Rattle.tf_config_data.specs.Config.{BlockView, ConfigView}
 use Rattle.tf_cli_inputs.specs.Texts.{AreTheValues, IsPrior, IsRead, ReadAs, Texts}
 use Rattle.tf_state.specs.Laws.{EmptyIsValid, ReadIsValid, TextIsOfOne}
 use Rattle.tf_state.specs.Valid.{IsValid}
 use Rattle.tf_state_data.specs.State.{StateView}
-use Rattle.tf_value.specs.Tree.{Entries}
-use Rattle.tf_config.specs.VariableLaws.{ValuesAreOne}
-use Rattle.tf_config.specs.VariablesRead.{IsFileOf}
-use Rattle.tf_config.specs.Values.{AreValues}
+use Rattle.tf_value_data.specs.Tree.{Entries}
+use Rattle.tf_config_json.specs.VariableLaws.{ValuesAreOne}
+use Rattle.tf_config_json.specs.VariablesRead.{IsFileOf}
+use Rattle.tf_config_json.specs.Values.{AreValues}
 use Rattle.tf_laws.specs.Readings.{TextsReadAsOne, TextsReadAsOneApart, without_lineage}
 
 -- ---- the same texts

@@ -3,7 +3,7 @@ use Rattle.std.proofs.Common.{◌≡◌, ℕ, List, [], ◌∷◌, Ok, String, G
 use Rattle.tf_cli.specs.Applies.{IsApplied, state_in}
 use Rattle.tf_cli.specs.Refusals.{IsPlanRefused, IsRefusedAlone}
 use Rattle.tf_cli_text.specs.declared.applied.Applied.{Applied}
-use Rattle.tf_config.specs.Laws.{RefusedIsNotRead}
+use Rattle.tf_config_json.specs.Laws.{RefusedIsNotRead}
 use Rattle.tf_config_data.specs.Config.{ConfigView}
 use Rattle.tf_config_data.specs.Names.{names_of}
 use Rattle.tf_laws.specs.Reapply.{StateAfterIsAtRest}
@@ -11,7 +11,7 @@ use Rattle.tf_laws.specs.Rest.{NothingIsPlannedAtRest}
 use Rattle.tf_cli_inputs.specs.Refusals.{AreNamesRefused, AreValuesRefused, IsStateRefused, at_state, fault_told}
 use Rattle.tf_cli_inputs.specs.Texts.{AreTheValues, Texts}
 use Rattle.tf_config_names.specs.Judging.{RefusesItsNames}
-use Rattle.tf_plan.specs.Refused.{AreRefused, AreRefusedOf}
+use Rattle.tf_plan_planner.specs.Refused.{AreRefused, AreRefusedOf}
 use Rattle.tf_provider_protocol.specs.Meaning.{Meaning}
 use Rattle.tf_config_refusal.specs.declared.code.Code.TheVariants as code
 use Rattle.tf_config_refusal.specs.Refusal.{RefusalView, no_memory}
@@ -20,9 +20,9 @@ use Rattle.tf_state.specs.Table.{IsBeyond, IsUnread, Reads}
 use Rattle.tf_state.specs.declared.fault.StateFault.{StateFault}
 use Rattle.tf_state.specs.declared.fault.StateFault.TheVariants.{BadState, Limit, OutOfMemory}
 use Rattle.tf_state_data.specs.State.{StateView}
-use Rattle.tf_value.specs.Tree.{Entries}
-use Rattle.tf_config.specs.VariableLaws.{ValuesAreFaultless}
-use Rattle.tf_config.specs.VariablesRead as variables
+use Rattle.tf_value_data.specs.Tree.{Entries}
+use Rattle.tf_config_json.specs.VariableLaws.{ValuesAreFaultless}
+use Rattle.tf_config_json.specs.VariablesRead as variables
 use Rattle.tf_laws.proofs.TextsAgain.{saved_reads}
 use Rattle.tf_laws.proofs.Faultless.{config_read, names_good, values_good}
 use Rattle.tf_laws.proofs.PlannedOverTexts.{Laws}

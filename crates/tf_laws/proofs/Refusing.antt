@@ -8,7 +8,7 @@ use Rattle.tf_cli_inputs.specs.Texts.{AreNamesGood, IsRead, Texts}
 use Rattle.tf_config_names.specs.Judging.{RefusesItsNames}
 use Rattle.tf_provider_protocol.specs.Meaning.{Meaning}
 use Rattle.tf_config_refusal.specs.Refusal.{RefusalView, no_memory}
-use Rattle.tf_config.specs.VariablesRead as variables
+use Rattle.tf_config_json.specs.VariablesRead as variables
 use Rattle.tf_laws.proofs.Faultless.{config_read}
 use Rattle.tf_laws.proofs.Once.{config_once, names_once, state_once, variables_once}
 use Rattle.tf_laws.proofs.UnrefusedTexts.{names_stand, none_told, values_stand}

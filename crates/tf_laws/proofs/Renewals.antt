@@ -13,7 +13,7 @@ use Rattle.tf_config_data.specs.Names.{NameView, a_block, meant_at}
 use Rattle.tf_graph.proofs.Edges.{contains_cases, contains_head, contains_tail}
 use Rattle.tf_state_next.proofs.Finding.{found_passes}
 use Rattle.tf_state_next.specs.Events.{ApplyView, MetadataUpdateView, apply_of_instance, as_apply, is_instance}
-use Rattle.tf_plan.proofs.Distinct.{in_map, in_flat_map, to_map}
+use Rattle.tf_plan_planner.proofs.Distinct.{in_map, in_flat_map, to_map}
 use Rattle.tf_plan_data.specs.Plan.{PlanView, plan_names}
 use Rattle.tf_walk_buffers.specs.MetadataUpdates.{is_about, is_none, metadata_update_of_record, metadata_updates, metadata_updates_at, metadata_updates_of, stays}
 use Rattle.tf_plan_order.proofs.Standing.{places-true}
@@ -22,7 +22,7 @@ use Rattle.tf_plan_order.specs.ResourceIndex.{a_name, block_address, numbered, p
 use Rattle.tf_state_next.specs.Ends.{unplanned}
 use Rattle.tf_state_data.specs.Record.{RecordView}
 use Rattle.tf_state_data.specs.Resource.{ResourceView}
-use Rattle.tf_value.proofs.Conjunction.{and-both, and-first}
+use Rattle.tf_value_data.proofs.Conjunction.{and-both, and-first}
 use Rattle.tf_laws.proofs.Declared.{found_contains}
 use Rattle.tf_laws.proofs.Lists.{nothing_in, to_filter, to_flat_map}
 use Rattle.tf_laws.proofs.Members.{same_key}

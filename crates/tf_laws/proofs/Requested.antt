@@ -8,10 +8,10 @@ use Rattle.tf_plan_object.proofs.Locals.{instances_local}
 use Rattle.tf_plan_object.specs.Instance.{instance_object}
 use Rattle.tf_config_data.specs.Config.{BlockView}
 use Rattle.tf_config_data.specs.Names.{Meant, a_block, meant_at, block_refers, directly_before, places, refers_at}
-use Rattle.tf_expand.proofs.Places.{along, names_stay}
-use Rattle.tf_expand.proofs.Seen.{agree_on}
-use Rattle.tf_expand.specs.Stages.{applying}
-use Rattle.tf_expand.specs.Resolved.{ResolvedView, AreResolvedNames, environment, rule, stands_at}
+use Rattle.tf_expand_keys.proofs.Places.{along, names_stay}
+use Rattle.tf_expand_keys.proofs.Seen.{agree_on}
+use Rattle.tf_expand_keys.specs.Stages.{applying}
+use Rattle.tf_expand_keys.specs.Resolved.{ResolvedView, AreResolvedNames, environment, rule, stands_at}
 use Rattle.tf_expr_eval.proofs.Locality.{expressions_local}
 use Rattle.tf_graph.proofs.Edges.{all_by_contained}
 use Rattle.tf_graph.proofs.Solving.{all_by_at, solution-exists}
@@ -23,7 +23,7 @@ use Rattle.tf_plan_data.specs.Plan.{plan_names}
 use Rattle.tf_provider_protocol.specs.Schema.{SchemaView}
 use Rattle.tf_walk_report.specs.Report.{objects_after}
 use Rattle.tf_walk_names.proofs.Answering.{next_is}
-use Rattle.tf_value.specs.Tree.{Tree}
+use Rattle.tf_value_data.specs.Tree.{Tree}
 use Rattle.tf_laws.proofs.Agree.{objects_agree}
 use Rattle.tf_laws.proofs.Applied.{Applied}
 use Rattle.tf_laws.proofs.Places.{meant_within}

@@ -13,8 +13,8 @@ use Rattle.tf_plan_data.specs.Fits.{is_apply}
 use Rattle.tf_plan_data.specs.Plan.{plan_names}
 use Rattle.tf_provider_protocol.specs.Meaning.{Asked, schema_in}
 use Rattle.tf_provider_protocol.specs.Schema.{SchemaView}
-use Rattle.tf_value.specs.Known.{known}
-use Rattle.tf_value.specs.Tree.{Tree, part_at}
+use Rattle.tf_value_data.specs.Known.{known}
+use Rattle.tf_value_data.specs.Tree.{Tree, part_at}
 use Rattle.tf_laws.proofs.AskedAlike.{requests_same}
 use Rattle.tf_laws.proofs.Answered.{answered, completed, completed_same}
 use Rattle.tf_laws.proofs.Instance.{IsOfInstance, of_instance}

@@ -22,11 +22,11 @@ use Rattle.tf_provider_protocol.specs.Meaning.{Asked}
 use Rattle.tf_provider_protocol.specs.Schema.{AttributeView, SchemaView, IsSchema}
 use Rattle.tf_provider_protocol.specs.Verdict.{contradiction, fits_in, has_attributes, is_good_verdict, names_of, same_names, verdict_on_object, well_formed}
 use Rattle.tf_state_data.specs.Record.{RecordView}
-use Rattle.tf_value.proofs.Conjunction.{and-first, and-second, and-both}
-use Rattle.tf_value.proofs.Order.{Refines-known}
-use Rattle.tf_value.specs.Known.{known}
-use Rattle.tf_value.specs.Refinement.{Refines}
-use Rattle.tf_value.specs.Tree.{Tree, null, boolean, whole, text, list, map, set, unknown, Entries, no_entries, entry, get, keys_of, part_at}
+use Rattle.tf_value_data.proofs.Conjunction.{and-first, and-second, and-both}
+use Rattle.tf_value_data.proofs.Order.{Refines-known}
+use Rattle.tf_value_data.specs.Known.{known}
+use Rattle.tf_value_data.specs.Refinement.{Refines}
+use Rattle.tf_value_data.specs.Tree.{Tree, null, boolean, whole, text, list, map, set, unknown, Entries, no_entries, entry, get, keys_of, part_at}
 use Rattle.tf_laws.specs.InstancesAtRest.{AnsweredInstancesRest, UntouchedInstancesRest}
 
 -- ---- what is kept of two objects, one after the other, is kept of the first

@@ -11,10 +11,10 @@ use Rattle.tf_config_data.specs.Config.{BlockView}
 use Rattle.tf_config_data.specs.Names.{a_block, meant_at}
 use Rattle.tf_plan_decision.specs.Stage.{records_at}
 use Rattle.tf_plan_decision.specs.Decision.{change, nothing}
-use Rattle.tf_expand.proofs.Refining.{followed}
-use Rattle.tf_expand.specs.StandingLaws.{ResolvedNamesGrow}
-use Rattle.tf_expand.specs.Stages.{applying}
-use Rattle.tf_expand.specs.Resolved.{ResolvedView, AreResolvedNames, environment}
+use Rattle.tf_expand_keys.proofs.Refining.{followed}
+use Rattle.tf_expand_keys.specs.StandingLaws.{ResolvedNamesGrow}
+use Rattle.tf_expand_keys.specs.Stages.{applying}
+use Rattle.tf_expand_keys.specs.Resolved.{ResolvedView, AreResolvedNames, environment}
 use Rattle.tf_plan_order.specs.Members.{is_among, records_of}
 use Rattle.tf_state_next.proofs.One.{some_known}
 use Rattle.tf_state_next.specs.StateAfter.{has_records}
@@ -31,7 +31,7 @@ use Rattle.tf_state_data.specs.Ids.{AreById}
 use Rattle.tf_state_data.specs.Record.{RecordView}
 use Rattle.tf_state_data.specs.Resource.{ResourceView, record_at}
 use Rattle.tf_state_data.specs.State.{record_in, resource_at}
-use Rattle.tf_value.specs.Tree.{Tree}
+use Rattle.tf_value_data.specs.Tree.{Tree}
 use Rattle.tf_laws.proofs.After.{IsKept, kept_at, known_declared}
 use Rattle.tf_laws.proofs.Applied.{Applied, setting}
 use Rattle.tf_laws.proofs.Declared.{block_has, blocks_one, env_of, found_contains, keys_at, records_found, records_in, resources_found}

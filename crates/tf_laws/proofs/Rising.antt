@@ -4,7 +4,7 @@ use Rattle.std.proofs.lemmas.Bool.{both_ways}
 use Rattle.std.specs.List.{AllByRecursion}
 use Rattle.std.specs.Prelude.{Contains}
 use Rattle.tf_graph.proofs.Edges.{contains_cases, contains_head, contains_tail}
-use Rattle.tf_plan.proofs.Distinct.{AreDistinct, all-contained}
+use Rattle.tf_plan_planner.proofs.Distinct.{AreDistinct, all-contained}
 
 -- each element is below those behind it
 abbrev pub IsRising : {A : Type 0} → (A → A → Bool) → List A → Type 0

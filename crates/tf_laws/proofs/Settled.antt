@@ -17,7 +17,7 @@ use Rattle.tf_plan_decision.proofs.Aligned.{apart, same_name}
 use Rattle.tf_plan_decision.proofs.Equal.{known_at}
 use Rattle.tf_plan_object.specs.Kept.{is_computed, is_ignored}
 use Rattle.tf_plan_decision.specs.Laws.{is_settled}
-use Rattle.tf_expand.specs.Instance.{bound, count_index, each_key, each_value, instance_constants, instance_environment, value_under}
+use Rattle.tf_expand_keys.specs.Instance.{bound, count_index, each_key, each_value, instance_constants, instance_environment, value_under}
 use Rattle.tf_expr_eval.proofs.Alone.{split}
 use Rattle.tf_expr_eval.specs.Constants.{ConstantView}
 use Rattle.tf_expr_eval.specs.Environment.{Environment}
@@ -33,11 +33,11 @@ use Rattle.tf_provider_protocol.specs.declared.schema.Kind.TheVariants as kinds
 use Rattle.tf_provider_protocol.specs.declared.schema.Mode.{Mode}
 use Rattle.tf_provider_protocol.specs.declared.schema.Mode.TheVariants as modes
 use Rattle.tf_expr_syntax.specs.ExprTree as expr
-use Rattle.tf_value.proofs.Conjunction.{and-first, and-second, and-both}
-use Rattle.tf_value.proofs.WithLists.{lists-known}
-use Rattle.tf_value.specs.Known.{known}
-use Rattle.tf_value.specs.Sets.{with_lists}
-use Rattle.tf_value.specs.Tree.{Tree, null, boolean, whole, text, map, set, unknown, Entries, no_entries, entry, get, keys_of}
+use Rattle.tf_value_data.proofs.Conjunction.{and-first, and-second, and-both}
+use Rattle.tf_value_data.proofs.WithLists.{lists-known}
+use Rattle.tf_value_data.specs.Known.{known}
+use Rattle.tf_value_data.specs.Sets.{with_lists}
+use Rattle.tf_value_data.specs.Tree.{Tree, null, boolean, whole, text, map, set, unknown, Entries, no_entries, entry, get, keys_of}
 use Rattle.tf_laws.specs.Known.{IsKnown, ExpressionsStayKnown}
 use Rattle.tf_laws.specs.InstancesAtRest.{ObjectsAreSettled}
 

@@ -16,13 +16,13 @@ use Rattle.tf_laws.specs.Twice.{HasOrderedOutputs, HasOwnNames, IsAppliedAgain, 
 use Rattle.tf_laws.specs.Twice as twice
 use Rattle.tf_cli_inputs.specs.Texts.{AreTheValues, ReadAs, Texts}
 use Rattle.tf_walk_outputs.specs.Outputs.{outputs_after}
-use Rattle.tf_plan.specs.Plan.{IsPlan}
+use Rattle.tf_plan_planner.specs.Plan.{IsPlan}
 use Rattle.tf_provider_protocol.specs.Meaning.{Meaning}
 use Rattle.tf_walk_report.specs.Report.{report_of}
 use Rattle.tf_state.specs.Laws.{TextReadsAsState}
 use Rattle.tf_state.specs.Table.{Reads}
 use Rattle.tf_state_data.specs.State.{StateView}
-use Rattle.tf_value.specs.Tree.{Entries}
+use Rattle.tf_value_data.specs.Tree.{Entries}
 use Rattle.tf_laws.proofs.Complete.{success_complete}
 use Rattle.tf_laws.proofs.Planning.{records_in_order}
 use Rattle.tf_laws.specs.ReadingLaws.{Laws}

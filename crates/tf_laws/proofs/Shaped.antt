@@ -6,18 +6,18 @@ use Rattle.tf_plan_decision.proofs.Standing.{named_within}
 use Rattle.tf_plan_decision.specs.Deciding.{DecidedView, with_block}
 use Rattle.tf_plan_decision.specs.Stage.{all_can_go, decided_object, deciding}
 use Rattle.tf_plan_decision.specs.Whole.{nothing_decided, with_meant, with_numbered}
-use Rattle.tf_expand.specs.InstanceKeys.{InstanceKeysView}
-use Rattle.tf_expand.specs.Resolved.{ResolvedView, AreResolvedNames, all_stand, environment, result_in, stands_at, together, where_all}
+use Rattle.tf_expand_keys.specs.InstanceKeys.{InstanceKeysView}
+use Rattle.tf_expand_keys.specs.Resolved.{ResolvedView, AreResolvedNames, all_stand, environment, result_in, stands_at, together, where_all}
 use Rattle.tf_expr_eval.specs.Environment.{Environment}
 use Rattle.tf_graph.specs.Solutions.{Ranked, seen_by}
-use Rattle.tf_plan.proofs.Solved.{planned-by}
-use Rattle.tf_plan.specs.Planned.{IsPlanned, PlannedView, planned_in, with_outputs}
+use Rattle.tf_plan_planner.proofs.Solved.{planned-by}
+use Rattle.tf_plan_planner.specs.Planned.{IsPlanned, PlannedView, planned_in, with_outputs}
 use Rattle.tf_provider_protocol.specs.Meaning.{Meaning}
 use Rattle.tf_plan_order.specs.ResourceLaws.{AreApart}
 use Rattle.tf_plan_order.specs.ResourceIndex.{ResourceRefView, a_name, an_orphan, numbered}
 use Rattle.tf_state_data.specs.Resource.{ResourceView}
 use Rattle.tf_expr_syntax.specs.ExprTree as expr
-use Rattle.tf_value.specs.Tree.{Entries}
+use Rattle.tf_value_data.specs.Tree.{Entries}
 use Rattle.tf_laws.proofs.PlacesSorted.{one_order}
 
 module _ (ms : List Meaning) (resources : List ResourceView) (variables : Entries) (names : List NameView) (shapes others : ℕ → InstanceKeysView) (same : (n : ℕ) → n < length names → shapes n ≡ others n) where

@@ -13,23 +13,23 @@ use Rattle.tf_plan_decision.specs.Outcome.{OutcomeView, by_removal, declared_out
 use Rattle.tf_plan_decision.specs.Stage.{all_can_go, can_go, decided_object, deciding, object_beside, object_of, object_unless_refused, records_at, stays_or_goes}
 use Rattle.tf_plan_decision.specs.Decision as decision
 use Rattle.tf_plan_decision.specs.Decision.{DecisionView, DecisionFaultView, change, current, removal_fault}
-use Rattle.tf_expand.proofs.Locals.{all_seen}
-use Rattle.tf_expand.proofs.Places.{along, names_stay}
-use Rattle.tf_expand.specs.InstanceKeys.{InstanceKeysView, one, many, named, instance_keys, collected, objects_at}
-use Rattle.tf_expand.specs.Resolved.{ResolvedView, AreResolvedNames, all_stand, environment, stands_at, together}
+use Rattle.tf_expand_keys.proofs.Locals.{all_seen}
+use Rattle.tf_expand_keys.proofs.Places.{along, names_stay}
+use Rattle.tf_expand_keys.specs.InstanceKeys.{InstanceKeysView, one, many, named, instance_keys, collected, objects_at}
+use Rattle.tf_expand_keys.specs.Resolved.{ResolvedView, AreResolvedNames, all_stand, environment, stands_at, together}
 use Rattle.tf_expr_eval.proofs.Locality.{expressions_local}
 use Rattle.tf_expr_eval.specs.Environment.{Environment}
 use Rattle.tf_graph.specs.Solutions.{Ranked, seen_by}
 use Rattle.tf_plan_order.specs.Members.{InstanceToPlanView, is_among, member, members, records_of}
 use Rattle.tf_expr_operators.specs.Answer.{limited}
-use Rattle.tf_plan.specs.Planned.{IsPlanned, unrefused}
+use Rattle.tf_plan_planner.specs.Planned.{IsPlanned, unrefused}
 use Rattle.tf_provider_protocol.specs.Meaning.{Meaning, schema_in}
 use Rattle.tf_provider_protocol.specs.Schema.{SchemaView}
 use Rattle.tf_state_data.specs.Record.{RecordView}
 use Rattle.tf_state_data.specs.Resource.{ResourceView}
 use Rattle.tf_expr_syntax.specs.ExprTree as expr
-use Rattle.tf_value.proofs.Conjunction.{and-both}
-use Rattle.tf_value.specs.Tree.{Tree, Entries}
+use Rattle.tf_value_data.proofs.Conjunction.{and-both}
+use Rattle.tf_value_data.specs.Tree.{Tree, Entries}
 use Rattle.tf_laws.proofs.Decided.{IsFine, decided_member, decision_is}
 use Rattle.tf_laws.proofs.Fine.{block_fine}
 use Rattle.tf_laws.proofs.Members.{all_among, instance_holds}

@@ -11,15 +11,15 @@ use Rattle.tf_graph.specs.Solutions.{seen_by}
 use Rattle.tf_plan_order.specs.Members.{is_among}
 use Rattle.tf_walk_action.specs.Objects.{object_of, prior_object}
 use Rattle.tf_walk_action.specs.Outcome.{done_at, objects_by}
-use Rattle.tf_plan.proofs.Distinct.{at-contained}
+use Rattle.tf_plan_planner.proofs.Distinct.{at-contained}
 use Rattle.tf_plan_data.specs.Fits.{IsDeclared}
 use Rattle.tf_plan_data.specs.Plan.{plan_names}
 use Rattle.tf_walk_report.specs.Report.{objects_after}
 use Rattle.tf_state_next.specs.After.{object_at}
 use Rattle.tf_state_data.specs.Record.{RecordView}
 use Rattle.tf_state_data.specs.State.{record_in}
-use Rattle.tf_value.specs.Known.{known}
-use Rattle.tf_value.specs.Tree.{Tree, null}
+use Rattle.tf_value_data.specs.Known.{known}
+use Rattle.tf_value_data.specs.Tree.{Tree, null}
 use Rattle.tf_laws.proofs.After.{IsKept, IsMade, IsUntouched, call_at_index, kept_at}
 use Rattle.tf_laws.proofs.Agree.{IsApplyOf, one_apply, seen_of}
 use Rattle.tf_laws.proofs.Answers.{good_formed}

@@ -11,7 +11,7 @@ use Rattle.tf_plan_data.specs.Fits.{deposed_key, is_apply}
 use Rattle.tf_provider_protocol.specs.Meaning.{Asked}
 use Rattle.tf_provider_protocol.specs.Schema.{SchemaView}
 use Rattle.tf_provider_protocol.specs.Verdict.{has_attributes}
-use Rattle.tf_value.specs.Tree.{Tree}
+use Rattle.tf_value_data.specs.Tree.{Tree}
 use Rattle.tf_laws.specs.Requests.{object_before}
 
 -- what is asked is about the action's instance, by its step

@@ -15,12 +15,12 @@ use Rattle.tf_plan_decision.specs.Stage.{all_can_go, block_members, decided_obje
 use Rattle.tf_plan_decision.specs.Steps.{decided_steps, destroy_if_deposed}
 use Rattle.tf_plan_decision.specs.Decision as decision
 use Rattle.tf_plan_decision.specs.Decision.{DecisionView, DecisionFaultView, change, current, nothing}
-use Rattle.tf_expand.proofs.Locals.{all_seen}
-use Rattle.tf_expand.proofs.Places.{along, names_stay}
-use Rattle.tf_expand.proofs.Seen.{agree_on}
-use Rattle.tf_expand.specs.InstanceKeys.{InstanceKeysView, one, many, named, instance_keys, collected, list_of, map_under, objects_at}
-use Rattle.tf_expand.specs.Stages.{applying}
-use Rattle.tf_expand.specs.Resolved.{ResolvedView, AreResolvedNames, all_stand, environment, rule, stands_at, together}
+use Rattle.tf_expand_keys.proofs.Locals.{all_seen}
+use Rattle.tf_expand_keys.proofs.Places.{along, names_stay}
+use Rattle.tf_expand_keys.proofs.Seen.{agree_on}
+use Rattle.tf_expand_keys.specs.InstanceKeys.{InstanceKeysView, one, many, named, instance_keys, collected, list_of, map_under, objects_at}
+use Rattle.tf_expand_keys.specs.Stages.{applying}
+use Rattle.tf_expand_keys.specs.Resolved.{ResolvedView, AreResolvedNames, all_stand, environment, rule, stands_at, together}
 use Rattle.tf_expr_eval.proofs.Locality.{expressions_local}
 use Rattle.tf_expr_eval.specs.Environment.{Environment}
 use Rattle.tf_expr_eval.specs.Locality.{AgreeOn}
@@ -28,15 +28,15 @@ use Rattle.tf_graph.proofs.Solving.{all_by_weaker, solution-exists}
 use Rattle.tf_graph.specs.Solutions.{Ranked, seen_by}
 use Rattle.tf_plan_order.specs.Members.{InstanceToPlanView, is_among, member, members, records_of}
 use Rattle.tf_expr_operators.specs.Answer.{limited}
-use Rattle.tf_plan.proofs.Listing.{member_actions, meant_actions, of_at, place_actions}
+use Rattle.tf_plan_planner.proofs.Listing.{member_actions, meant_actions, of_at, place_actions}
 use Rattle.tf_provider_protocol.specs.Meaning.{Meaning, schema_in}
 use Rattle.tf_provider_protocol.specs.Schema.{SchemaView}
 use Rattle.tf_walk_names.proofs.Answering.{next_is}
 use Rattle.tf_plan_order.specs.ResourceIndex.{ResourceRefView, a_name, an_orphan, numbered}
 use Rattle.tf_state_data.specs.Record.{RecordView}
 use Rattle.tf_state_data.specs.Resource.{ResourceView}
-use Rattle.tf_value.proofs.Conjunction.{and-both}
-use Rattle.tf_value.specs.Tree.{Tree, Entries}
+use Rattle.tf_value_data.proofs.Conjunction.{and-both}
+use Rattle.tf_value_data.specs.Tree.{Tree, Entries}
 use Rattle.tf_laws.proofs.Decided.{IsFine, by_decision-is, decision_is}
 use Rattle.tf_laws.proofs.Fine.{actions_are, block_fine}
 use Rattle.tf_laws.proofs.Lists.{flat_none, or_first}

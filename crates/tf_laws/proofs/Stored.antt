@@ -9,7 +9,7 @@ use Rattle.tf_plan_decision.proofs.Aligned.{each_entry, passes}
 use Rattle.tf_plan_decision.proofs.Exact.{fits_exactly}
 use Rattle.tf_plan_decision.specs.Decision.{current}
 use Rattle.tf_plan_decision.specs.Prior.{PriorFaultView, first_unfit, record_fault}
-use Rattle.tf_expand.proofs.Refining.{followed}
+use Rattle.tf_expand_keys.proofs.Refining.{followed}
 use Rattle.tf_graph.proofs.Edges.{contains_cases}
 use Rattle.tf_provider_protocol.specs.Schema.{AttributeView, SchemaView, IsSchema}
 use Rattle.tf_provider_protocol.specs.Verdict.{fits, fits_in, has_attributes, is_allowed, well_formed}
@@ -17,10 +17,10 @@ use Rattle.tf_state.specs.Valid.{IsAttributes, IsPresent, IsRecord, IsValid}
 use Rattle.tf_state_data.specs.Record.{RecordView}
 use Rattle.tf_state_data.specs.Resource.{ResourceView, record_at}
 use Rattle.tf_state_data.specs.State.{StateView, record_in, resource_at}
-use Rattle.tf_value.proofs.Conjunction.{and-both, and-first, and-second}
-use Rattle.tf_value.specs.Known.{known, known_entries}
-use Rattle.tf_value.specs.Stored.{EachMayBeStored, may_be_planned, may_be_stored}
-use Rattle.tf_value.specs.Tree.{Tree, map, Entries, no_entries, entry, AreSortedEntries, IsSorted, get}
+use Rattle.tf_value_data.proofs.Conjunction.{and-both, and-first, and-second}
+use Rattle.tf_value_data.specs.Known.{known, known_entries}
+use Rattle.tf_value_data.specs.Stored.{EachMayBeStored, may_be_planned, may_be_stored}
+use Rattle.tf_value_data.specs.Tree.{Tree, map, Entries, no_entries, entry, AreSortedEntries, IsSorted, get}
 use Rattle.tf_laws.proofs.Declared.{found_contains}
 use Rattle.tf_laws.proofs.Lists.{all_contained, nothing_in}
 

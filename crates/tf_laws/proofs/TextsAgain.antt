@@ -25,7 +25,7 @@ use Rattle.tf_state.specs.Laws.{TextIsOfOne, TextReadsAsState}
 use Rattle.tf_state.specs.Table.{Reads}
 use Rattle.tf_state.specs.Text.{state_text}
 use Rattle.tf_state_data.specs.State.{StateView, record_in}
-use Rattle.tf_value.proofs.Conjunction.{and-first, and-second}
+use Rattle.tf_value_data.proofs.Conjunction.{and-first, and-second}
 use Rattle.tf_laws.proofs.PlannedOverTexts.{Laws, no_entries, none_again, reported, shown_none}
 use Rattle.tf_laws.proofs.Reading.{one_resources}
 use Rattle.tf_laws.specs.ReapplyTexts.{HaveSchemas, NothingIsDoneAgain, NothingIsPlannedAfterSuccess, NothingIsPlannedAgain, WentWell, no_changes, over, with_written}

@@ -2,19 +2,19 @@
 use Rattle.std.proofs.Common.{◌≡◌, ◌∙◌, ◌+◌, inl, inr, ℕ, Bool, true, false, cond, List, map, refl, sym, ap, subst}
 use Rattle.tf_plan_object.specs.Laws.{InstancesGrow}
 use Rattle.tf_config_data.specs.Config.{ConfigView}
-use Rattle.tf_expand.specs.StandingLaws.{ResolvedNamesGrow}
+use Rattle.tf_expand_keys.specs.StandingLaws.{ResolvedNamesGrow}
 use Rattle.tf_state_next.proofs.Composed.{state_is}
 use Rattle.tf_walk_outputs.specs.Outputs.{OutputResultView, outputs_after}
 use Rattle.tf_walk_action.specs.Outcome.{ActionResultView}
-use Rattle.tf_plan.proofs.Fitting.{all-by_id}
-use Rattle.tf_plan.specs.Plan.{IsPlan}
+use Rattle.tf_plan_planner.proofs.Fitting.{all-by_id}
+use Rattle.tf_plan_planner.specs.Plan.{IsPlan}
 use Rattle.tf_plan_data.specs.Plan.{PlanView}
 use Rattle.tf_provider_protocol.specs.Meaning.{Meaning}
 use Rattle.tf_walk_report.specs.Report.{IsTold}
 use Rattle.tf_walk_report.specs.declared.report.Report.{Report}
 use Rattle.tf_state_data.specs.Equality.{same_state, state_Decides}
 use Rattle.tf_state_data.specs.State.{StateView, state_of}
-use Rattle.tf_value.specs.Tree.{Entries}
+use Rattle.tf_value_data.specs.Tree.{Entries}
 use Rattle.tf_laws.proofs.Homes.{IsAtRest, home, homed, nothing_again}
 use Rattle.tf_laws.proofs.Outputs.{outputs_stay}
 use Rattle.tf_laws.proofs.Twice.{rested, second_resources, second_rests, third_resources, third_same}

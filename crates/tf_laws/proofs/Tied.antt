@@ -5,7 +5,7 @@ use Rattle.tf_walk_buffers.specs.Dependencies as additions
 use Rattle.tf_config_data.specs.Names.{NameView, meant_at, place_of}
 use Rattle.tf_config_names.specs.Needs.{IsDependence, needs_in}
 use Rattle.tf_config_names.specs.declared.dependence.Dependence.{Dependence}
-use Rattle.tf_plan.proofs.Tied.{needs_same}
+use Rattle.tf_plan_planner.proofs.Tied.{needs_same}
 use Rattle.tf_expr_syntax.specs.TemplateNames.{Pair}
 
 filter_same : (p q : ℕ → Bool) (xs : List ℕ) → ((x : ℕ) → p x ≡ q x) → filter p xs ≡ filter q xs

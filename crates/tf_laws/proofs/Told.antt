@@ -22,7 +22,7 @@ use Rattle.tf_walk_report.specs.declared.report.Report.{Report}
 use Rattle.tf_state_next.specs.ObjectLaws.{KeyIsOne}
 use Rattle.tf_state_data.specs.State.{StateView, state_of}
 use Rattle.tf_state_data.specs.declared.state.State.{State}
-use Rattle.tf_value.specs.Tree.{Entries}
+use Rattle.tf_value_data.specs.Tree.{Entries}
 use Rattle.tf_laws.proofs.Ended.{outputs_one}
 use Rattle.tf_laws.proofs.Heads.{heads_one}
 use Rattle.tf_laws.specs.One.{TellTheSame}

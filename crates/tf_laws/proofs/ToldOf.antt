@@ -3,12 +3,12 @@ use Rattle.std.proofs.Common.{◌≡◌, ◌∙◌, ◌≤◌, ◌⊎◌, ℕ, B
 use Rattle.std.proofs.lemmas.Bool.{cases_Bool, cases_lt}
 use Rattle.serde_json.specs.Data.{Data}
 use Rattle.tf_laws.proofs.Reading.{one_tree}
-use Rattle.tf_config.specs.Config.{names_in}
-use Rattle.tf_config.specs.Configuration.{configuration_checks, whole_file}
-use Rattle.tf_config.specs.Demand.{AreMet, Checks, Fails, IsMet}
-use Rattle.tf_config.specs.Laws.{FaultlessStands}
-use Rattle.tf_config.specs.Reading as config
-use Rattle.tf_config.specs.Reading.{IsTree, IsWithinCounts, max_declared}
+use Rattle.tf_config_json.specs.Config.{names_in}
+use Rattle.tf_config_json.specs.Configuration.{configuration_checks, whole_file}
+use Rattle.tf_config_json.specs.Demand.{AreMet, Checks, Fails, IsMet}
+use Rattle.tf_config_json.specs.Laws.{FaultlessStands}
+use Rattle.tf_config_json.specs.Reading as config
+use Rattle.tf_config_json.specs.Reading.{IsTree, IsWithinCounts, max_declared}
 use Rattle.tf_config_data.specs.Config.{ConfigView, VariableView}
 use Rattle.tf_config_data.specs.Names.{names_of}
 use Rattle.tf_cli_inputs.specs.Refusals.{HasFault, IsToldOf, IsToldOfState, at_state}
@@ -27,11 +27,11 @@ use Rattle.tf_state.specs.Reading.{state_in}
 use Rattle.tf_state.specs.Table.{IsBeyond, Reads, last_serial, max_resources}
 use Rattle.tf_state.specs.declared.fault.StateFault.TheVariants.{BadState, Limit}
 use Rattle.tf_state_data.specs.State.{StateView, empty_state}
-use Rattle.tf_value.specs.Tree.{Entries}
-use Rattle.tf_config.specs.VariableLaws.{FaultlessHaveValues}
-use Rattle.tf_config.specs.VariablesRead as variables
-use Rattle.tf_config.specs.VariablesRead.{IsFaulty, IsFile, IsFileOf, is_object}
-use Rattle.tf_config.specs.Values.{AreValues, HasNone, file_checks, value_checks}
+use Rattle.tf_value_data.specs.Tree.{Entries}
+use Rattle.tf_config_json.specs.VariableLaws.{FaultlessHaveValues}
+use Rattle.tf_config_json.specs.VariablesRead as variables
+use Rattle.tf_config_json.specs.VariablesRead.{IsFaulty, IsFile, IsFileOf, is_object}
+use Rattle.tf_config_json.specs.Values.{AreValues, HasNone, file_checks, value_checks}
 use Rattle.tf_laws.proofs.Circles.{some_cyclic}
 use Rattle.tf_laws.proofs.DecidedChecks.{IsDecidedBy, IsDemandDecided, each_decided, first_told, not_memory, tree_told}
 use Rattle.tf_laws.specs.OneOfTwo.{AreRead, AreToldOf}

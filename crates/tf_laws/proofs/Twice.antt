@@ -8,7 +8,7 @@ use Rattle.tf_config_address.specs.ObjectId.{ObjectIdView}
 use Rattle.tf_plan_object.specs.Laws.{InstancesGrow}
 use Rattle.tf_config_data.specs.Config.{BlockView, ConfigView}
 use Rattle.tf_config_data.specs.Names.{NameView, a_block, meant_at, names_of}
-use Rattle.tf_expand.specs.StandingLaws.{ResolvedNamesGrow}
+use Rattle.tf_expand_keys.specs.StandingLaws.{ResolvedNamesGrow}
 use Rattle.tf_state_next.proofs.One.{state_after_one}
 use Rattle.tf_state_next.specs.Events.{ends_in, given_in}
 use Rattle.tf_state_next.specs.StateAfter.{IsStateAfter, next_serial}
@@ -26,12 +26,12 @@ use Rattle.tf_state_data.specs.Provider.{provider_text}
 use Rattle.tf_state_data.specs.Record.{RecordView}
 use Rattle.tf_state_data.specs.Resource.{ResourceView}
 use Rattle.tf_state_data.specs.State.{StateView, record_in, resource_at}
-use Rattle.tf_value.specs.Tree.{Entries}
+use Rattle.tf_value_data.specs.Tree.{Entries}
 use Rattle.tf_laws.proofs.Declared.{blocks_one}
 use Rattle.tf_laws.proofs.Flagless.{AreLike, resources_like, same_stored}
 use Rattle.tf_laws.proofs.Homes.{Depends, IsAtRest, first_rests, given_again, home, in_place, needs_alike, none_again}
 use Rattle.tf_laws.proofs.Stays.{rest_still}
-use Rattle.tf_plan.proofs.Tied.{late_same}
+use Rattle.tf_plan_planner.proofs.Tied.{late_same}
 use Rattle.tf_laws.proofs.Whole.{own_depends}
 use Rattle.tf_laws.specs.Reapply.{IsCarriedOut, IsSound}
 use Rattle.tf_laws.specs.Known.{ExpressionsStayKnown}

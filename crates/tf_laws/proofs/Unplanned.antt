@@ -9,13 +9,13 @@ use Rattle.tf_config_data.specs.Names.{NameView, directly_before, names_of}
 use Rattle.tf_laws.proofs.Whole.{carried_out, rest_same}
 use Rattle.tf_laws.specs.Reapply.{IsCarriedOut, StateAfterIsAtRest}
 use Rattle.tf_laws.specs.Rest.{AreAtRest, NothingIsPlannedAtRest}
-use Rattle.tf_expand.specs.InstanceKeys.{InstanceKeysView}
+use Rattle.tf_expand_keys.specs.InstanceKeys.{InstanceKeysView}
 use Rattle.tf_graph.specs.Solutions.{Ranked}
 use Rattle.tf_walk_outputs.specs.Outputs.{outputs_after}
-use Rattle.tf_plan.proofs.Excluding.{none_unexpanded, not_many}
-use Rattle.tf_plan.proofs.Solved.{same_shapes}
-use Rattle.tf_plan.specs.Planned.{AreInstances}
-use Rattle.tf_plan.specs.Refused.{AreManyActions, AreManyPairs, AreManyPairsBy, AreRefusedOf, IsUnplanned}
+use Rattle.tf_plan_planner.proofs.Excluding.{none_unexpanded, not_many}
+use Rattle.tf_plan_planner.proofs.Solved.{same_shapes}
+use Rattle.tf_plan_planner.specs.Planned.{AreInstances}
+use Rattle.tf_plan_planner.specs.Refused.{AreManyActions, AreManyPairs, AreManyPairsBy, AreRefusedOf, IsUnplanned}
 use Rattle.tf_plan_data.specs.Plan.{plan_names}
 use Rattle.tf_plan_order.specs.OrderInput.{OrderInputView}
 use Rattle.tf_provider_protocol.specs.Meaning.{Meaning}
@@ -24,7 +24,7 @@ use Rattle.tf_walk_report.specs.Report.{objects_after, report_of}
 use Rattle.tf_state.specs.Table.{IsBeyond, last_serial}
 use Rattle.tf_state_data.specs.Resource.{ResourceView}
 use Rattle.tf_expr_syntax.specs.ExprTree as expr
-use Rattle.tf_value.specs.Tree.{Entries, Tree}
+use Rattle.tf_value_data.specs.Tree.{Entries, Tree}
 use Rattle.tf_laws.proofs.Counted.{beyond_by_serial}
 use Rattle.tf_laws.proofs.PlannedOverTexts.{Laws, plan_acyclic, plan_ranked, reported, sound}
 use Rattle.tf_laws.specs.ReapplyTexts.{HaveSchemas, WentWell}

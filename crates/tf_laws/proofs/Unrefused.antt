@@ -16,11 +16,11 @@ use Rattle.tf_plan_decision.specs.Decision as decision
 use Rattle.tf_plan_decision.specs.Decision.{DecisionView, DecisionFaultView, change, current, unless_prevented, unless_unfit}
 use Rattle.tf_plan_decision.specs.Ignored.{heeding, ignored_fault}
 use Rattle.tf_plan_decision.specs.Prior.{PriorFaultView, first_unfit}
-use Rattle.tf_expand.proofs.Places.{all_places}
-use Rattle.tf_expand.proofs.Seen.{agree_on}
-use Rattle.tf_expand.specs.InstanceKeys.{InstanceKeysView, instance_keys}
-use Rattle.tf_expand.specs.Stages.{applying}
-use Rattle.tf_expand.specs.Resolved.{ResolvedView, AreResolvedNames, all_stand, environment, rule}
+use Rattle.tf_expand_keys.proofs.Places.{all_places}
+use Rattle.tf_expand_keys.proofs.Seen.{agree_on}
+use Rattle.tf_expand_keys.specs.InstanceKeys.{InstanceKeysView, instance_keys}
+use Rattle.tf_expand_keys.specs.Stages.{applying}
+use Rattle.tf_expand_keys.specs.Resolved.{ResolvedView, AreResolvedNames, all_stand, environment, rule}
 use Rattle.tf_expr_eval.proofs.Locality.{expressions_local}
 use Rattle.tf_expr_eval.specs.Environment.{Environment}
 use Rattle.tf_expr_eval.specs.ExprMeaning.{meaning}
@@ -29,10 +29,10 @@ use Rattle.tf_graph.proofs.Solving.{all_by_weaker, solution-exists}
 use Rattle.tf_graph.specs.Solutions.{Ranked, seen_by}
 use Rattle.tf_plan_order.specs.Members.{InstanceToPlanView, member, members, is_among, records_of}
 use Rattle.tf_expr_operators.specs.Answer.{Answer}
-use Rattle.tf_plan.proofs.Listing.{decided-actions, place_actions}
-use Rattle.tf_plan.specs.Outputs.{output_fault, output_refusals}
-use Rattle.tf_plan.specs.Planned.{planned_in}
-use Rattle.tf_plan.specs.Told.{instance_told}
+use Rattle.tf_plan_planner.proofs.Listing.{decided-actions, place_actions}
+use Rattle.tf_plan_planner.specs.Outputs.{output_fault, output_refusals}
+use Rattle.tf_plan_planner.specs.Planned.{planned_in}
+use Rattle.tf_plan_planner.specs.Told.{instance_told}
 use Rattle.tf_provider_protocol.specs.Meaning.{Meaning, schema_in}
 use Rattle.tf_provider_protocol.specs.Schema.{SchemaView}
 use Rattle.tf_config_refusal.specs.Refusal.{RefusalView}
@@ -41,7 +41,7 @@ use Rattle.tf_state_data.specs.Record.{RecordView}
 use Rattle.tf_state_data.specs.Resource.{ResourceView}
 use Rattle.tf_expr_syntax.specs.ExprNames.{named_by}
 use Rattle.tf_expr_syntax.specs.ExprTree as expr
-use Rattle.tf_value.specs.Tree.{Tree, Entries}
+use Rattle.tf_value_data.specs.Tree.{Tree, Entries}
 use Rattle.tf_laws.proofs.Decided.{IsFine}
 use Rattle.tf_laws.proofs.Lists.{flat_none}
 use Rattle.tf_laws.proofs.Members.{members_hold}

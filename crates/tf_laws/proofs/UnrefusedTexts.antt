@@ -12,8 +12,8 @@ use Rattle.tf_state.specs.Table.{IsBeyond, IsPlannable, IsUnread, Reads}
 use Rattle.tf_state.specs.declared.fault.StateFault.{StateFault}
 use Rattle.tf_state.specs.declared.fault.StateFault.TheVariants.{BadState, Limit, OutOfMemory}
 use Rattle.tf_state_data.specs.State.{StateView}
-use Rattle.tf_value.specs.Tree.{Entries}
-use Rattle.tf_config.specs.VariablesRead as variables
+use Rattle.tf_value_data.specs.Tree.{Entries}
+use Rattle.tf_config_json.specs.VariablesRead as variables
 use Rattle.tf_laws.specs.ReadingLaws.{Laws}
 use Rattle.tf_laws.specs.TextPlans.{PlannedTextsAreNotRefused}
 use Rattle.tf_laws.specs.Refusals.{PlannedTextsHaveNoRefusals, ReadTextsAreNotRefused}

@@ -7,9 +7,9 @@ use Rattle.tf_config_address.specs.ObjectId.{InstanceKeyView}
 use Rattle.tf_config_data.specs.Config.{BlockView, ConfigView}
 use Rattle.tf_config_data.specs.Names.{Meant, a_local, a_block, directly_before, meant_at, names_of}
 use Rattle.tf_plan_decision.specs.Decision.{current}
-use Rattle.tf_expand.specs.InstanceKeys.{InstanceKeysView, instance_keys}
-use Rattle.tf_expand.specs.Stages.{applying}
-use Rattle.tf_expand.specs.Resolved.{ResolvedView, AreResolvedNames, all_stand, environment, result_in, rule, stands_at, together, where_all}
+use Rattle.tf_expand_keys.specs.InstanceKeys.{InstanceKeysView, instance_keys}
+use Rattle.tf_expand_keys.specs.Stages.{applying}
+use Rattle.tf_expand_keys.specs.Resolved.{ResolvedView, AreResolvedNames, all_stand, environment, result_in, rule, stands_at, together, where_all}
 use Rattle.tf_expr_eval.specs.Environment.{Environment}
 use Rattle.tf_graph.proofs.Solving.{solution-exists}
 use Rattle.tf_graph.specs.Solutions.{seen_by}
@@ -18,8 +18,8 @@ use Rattle.tf_walk_action.specs.Objects.{objects_seen, prior_object}
 use Rattle.tf_walk_action.specs.Outcome.{ActionResultView, done_at}
 use Rattle.tf_walk_outputs.specs.Outputs.{AreOutputsDone, IsOutputDone, OutputResultView, excused, faulted, not_evaluated, valued}
 use Rattle.tf_walk_outputs.specs.Settled.{names_are_settled}
-use Rattle.tf_plan.proofs.Solved.{same_shapes}
-use Rattle.tf_plan.specs.Planned.{AreInstances}
+use Rattle.tf_plan_planner.proofs.Solved.{same_shapes}
+use Rattle.tf_plan_planner.specs.Planned.{AreInstances}
 use Rattle.tf_plan_data.specs.Plan.{PlanView}
 use Rattle.tf_provider_protocol.specs.Meaning.{Meaning}
 use Rattle.tf_walk_report.specs.Report.{AreOutputsOf, objects_after}
@@ -27,7 +27,7 @@ use Rattle.tf_state_next.specs.After.{object_at}
 use Rattle.tf_state_data.specs.Record.{RecordView}
 use Rattle.tf_state_data.specs.State.{StateView, record_in}
 use Rattle.tf_expr_syntax.specs.ExprTree as expr
-use Rattle.tf_value.specs.Tree.{Tree, Entries, null}
+use Rattle.tf_value_data.specs.Tree.{Tree, Entries, null}
 use Rattle.tf_laws.proofs.Again.{decided}
 use Rattle.tf_laws.proofs.Homes.{IsAtRest, home}
 use Rattle.tf_laws.proofs.OneRecord.{current_known}

@@ -27,7 +27,7 @@ use Rattle.tf_provider_protocol.specs.declared.verdict.Verdict.TheVariants as ve
 use Rattle.tf_state_next.specs.Ends.{as_applied, ApplyResultView, LeftView, SavedView, saved, unchanged}
 use Rattle.tf_state_next.specs.Ends as ends
 use Rattle.tf_state_next.specs.Saved.{left_by_destroy}
-use Rattle.tf_value.specs.Tree.{Tree}
+use Rattle.tf_value_data.specs.Tree.{Tree}
 
 -- ---- the rule
 

@@ -9,10 +9,10 @@ use Rattle.tf_plan_object.specs.Laws.{InstancesGrow}
 use Rattle.tf_config_data.specs.Config.{BlockView, ConfigView}
 use Rattle.tf_config_data.specs.Names.{NameView, Meant, a_local, a_block, directly_before, meant_at}
 use Rattle.tf_plan_decision.specs.Stage.{deciding, records_at}
-use Rattle.tf_expand.specs.StandingLaws.{ResolvedNamesGrow}
-use Rattle.tf_expand.specs.InstanceKeys.{InstanceKeysView, instance_keys}
-use Rattle.tf_expand.specs.Stages.{applying}
-use Rattle.tf_expand.specs.Resolved.{all_stand, environment, result_in, rule, stands_at, together, where_all}
+use Rattle.tf_expand_keys.specs.StandingLaws.{ResolvedNamesGrow}
+use Rattle.tf_expand_keys.specs.InstanceKeys.{InstanceKeysView, instance_keys}
+use Rattle.tf_expand_keys.specs.Stages.{applying}
+use Rattle.tf_expand_keys.specs.Resolved.{all_stand, environment, result_in, rule, stands_at, together, where_all}
 use Rattle.tf_expr_eval.specs.Environment.{Environment}
 use Rattle.tf_graph.proofs.Solving.{solution-exists}
 use Rattle.tf_graph.specs.Solutions.{Ranked, seen_by}
@@ -21,10 +21,10 @@ use Rattle.tf_config_names.specs.Needs.{IsAcyclic}
 use Rattle.tf_walk_action.specs.Outcome.{AreRequests, ActionResultView, Requests, called, excused, faulted, is_good, is_good_verdict, skipped}
 use Rattle.tf_walk_action.specs.declared.excuse.Outcome.TheVariants.{Judged}
 use Rattle.tf_walk_outputs.specs.Outputs.{OutputResultView, outputs_after}
-use Rattle.tf_plan.proofs.Blocks.{names-apart}
-use Rattle.tf_plan.proofs.Fitting.{all-by_id, plan-fits}
-use Rattle.tf_plan.proofs.Solved.{same_shapes}
-use Rattle.tf_plan.specs.Plan.{IsPlan, IsPlannedFrom}
+use Rattle.tf_plan_planner.proofs.Blocks.{names-apart}
+use Rattle.tf_plan_planner.proofs.Fitting.{all-by_id, plan-fits}
+use Rattle.tf_plan_planner.proofs.Solved.{same_shapes}
+use Rattle.tf_plan_planner.specs.Plan.{IsPlan, IsPlannedFrom}
 use Rattle.tf_plan_data.specs.Plan.{PlanView, plan_names}
 use Rattle.tf_provider_protocol.specs.Meaning.{Meaning}
 use Rattle.tf_provider_protocol.specs.declared.verdict.Verdict.TheVariants as verdict
@@ -37,8 +37,8 @@ use Rattle.tf_state_next.specs.After.{object_at}
 use Rattle.tf_state_data.specs.Record.{RecordView}
 use Rattle.tf_state_data.specs.Resource.{ResourceView}
 use Rattle.tf_state_data.specs.State.{StateView, record_in, state_of}
-use Rattle.tf_value.specs.Known.{known_entries}
-use Rattle.tf_value.specs.Tree.{Tree, Entries}
+use Rattle.tf_value_data.specs.Known.{known_entries}
+use Rattle.tf_value_data.specs.Tree.{Tree, Entries}
 use Rattle.tf_laws.proofs.After.{kept_at}
 use Rattle.tf_laws.proofs.Again.{none_refused}
 use Rattle.tf_laws.proofs.Applied.{Applied}

@@ -8,16 +8,16 @@ use Rattle.tf_config_data.specs.Names.{a_block, directly_before, meant_at}
 use Rattle.tf_plan_decision.specs.Stage.{decided_object, deciding}
 use Rattle.tf_plan_decision.specs.Steps.{decided_steps}
 use Rattle.tf_plan_decision.specs.Decision.{DecisionView, decision}
-use Rattle.tf_expand.specs.StandingLaws.{AreAnswered}
-use Rattle.tf_expand.specs.Resolved.{ResolvedView, AreResolvedNames, environment}
+use Rattle.tf_expand_keys.specs.StandingLaws.{AreAnswered}
+use Rattle.tf_expand_keys.specs.Resolved.{ResolvedView, AreResolvedNames, environment}
 use Rattle.tf_graph.specs.Solutions.{Ranked}
 use Rattle.tf_plan_data.specs.Plan.{PlanView, plan_names}
 use Rattle.tf_provider_protocol.specs.Meaning.{Asked, Meaning}
 use Rattle.tf_provider_protocol.specs.Schema.{SchemaView}
 use Rattle.tf_state_data.specs.Record.{RecordView}
-use Rattle.tf_value.specs.Known.{known}
-use Rattle.tf_value.specs.Refinement.{Refines}
-use Rattle.tf_value.specs.Tree.{Tree, part_at}
+use Rattle.tf_value_data.specs.Known.{known}
+use Rattle.tf_value_data.specs.Refinement.{Refines}
+use Rattle.tf_value_data.specs.Tree.{Tree, part_at}
 use Rattle.tf_walk_action.specs.Asked.{AreRequests, Requests, asked_for}
 
 -- No name needs itself, names have these values in the plan, and each instance's object in the plan refines to its object in

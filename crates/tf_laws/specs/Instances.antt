@@ -5,10 +5,10 @@ use Rattle.tf_config_address.specs.ObjectId.{InstanceKeyView}
 use Rattle.tf_config_data.specs.Config.{BlockView, ConfigView, for_each}
 use Rattle.tf_config_data.specs.Names.{a_block, meant_at}
 use Rattle.tf_plan_decision.specs.Stage.{deciding}
-use Rattle.tf_expand.specs.Repetition.{instances}
-use Rattle.tf_expand.specs.InstanceKeys.{InstanceKeysView}
-use Rattle.tf_expand.specs.Stages.{applying, expansion}
-use Rattle.tf_expand.specs.Resolved.{ResolvedView, AreResolvedNames, environment}
+use Rattle.tf_expand_keys.specs.Repetition.{instances}
+use Rattle.tf_expand_keys.specs.InstanceKeys.{InstanceKeysView}
+use Rattle.tf_expand_keys.specs.Stages.{applying, expansion}
+use Rattle.tf_expand_keys.specs.Resolved.{ResolvedView, AreResolvedNames, environment}
 use Rattle.tf_walk_action.specs.Asked.{AreRequests, Requests, asked_for}
 use Rattle.tf_plan_data.specs.Fits.{is_apply}
 use Rattle.tf_plan_data.specs.Plan.{PlanView, plan_names}
@@ -16,7 +16,7 @@ use Rattle.tf_provider_protocol.specs.Meaning.{Asked, Meaning}
 use Rattle.tf_provider_protocol.specs.Schema.{SchemaView}
 use Rattle.tf_state_data.specs.State.{StateView}
 use Rattle.tf_expr_syntax.specs.ExprTree as expr
-use Rattle.tf_value.specs.Tree.{Tree, Entries}
+use Rattle.tf_value_data.specs.Tree.{Tree, Entries}
 use Rattle.tf_laws.specs.Requests.{IsSoundPlan}
 
 -- The instances of each resource of a plan are those of the expansion.

@@ -14,9 +14,9 @@ use Rattle.tf_provider_protocol.specs.Meaning.{Asked}
 use Rattle.tf_provider_protocol.specs.Schema.{SchemaView, IsSchema}
 use Rattle.tf_provider_protocol.specs.Verdict.{has_attributes, is_good_verdict, verdict_on_object}
 use Rattle.tf_state_data.specs.Record.{RecordView}
-use Rattle.tf_value.specs.Known.{known}
-use Rattle.tf_value.specs.Refinement.{Refines}
-use Rattle.tf_value.specs.Tree.{Tree}
+use Rattle.tf_value_data.specs.Known.{known}
+use Rattle.tf_value_data.specs.Refinement.{Refines}
+use Rattle.tf_value_data.specs.Tree.{Tree}
 use Rattle.tf_laws.specs.Known.{IsKnown}
 
 -- If all names have known values, each attribute of an instance's object is known, except those that keep their prior value.

@@ -3,7 +3,7 @@ use Rattle.std.specs.Prelude.{◌≡◌, ◌≢◌, ◌⊎◌, ℕ, true, List}
 use Rattle.tf_cli.specs.Applies.{IsPlanOf}
 use Rattle.tf_cli.specs.Refusals.{AreApplyRefusals, AreRefusals}
 use Rattle.tf_config_data.specs.Config.{ConfigView}
-use Rattle.tf_expr.specs.Demand.{IsTemplate}
+use Rattle.tf_expr_json.specs.Demand.{IsTemplate}
 use Rattle.tf_cli_inputs.specs.Refusals.{IsToldOf}
 use Rattle.tf_cli_inputs.specs.Texts.{ReadAs, Texts}
 use Rattle.tf_plan_data.specs.Plan.{PlanView}
@@ -12,7 +12,7 @@ use Rattle.tf_config_refusal.specs.Refusal.{RefusalView, no_memory}
 use Rattle.tf_walk.specs.Run.{are_workers}
 use Rattle.tf_state_data.specs.State.{StateView}
 use Rattle.tf_expr_syntax.specs.TemplateTree.{Woven}
-use Rattle.tf_value.specs.Tree.{Entries}
+use Rattle.tf_value_data.specs.Tree.{Entries}
 
 -- the two aren't both false
 abbrev pub NeverNeither : Type 0 → Type 0 → Type 0

@@ -7,8 +7,8 @@ use Rattle.tf_config_data.specs.Config.{ConfigView}
 use Rattle.tf_config_data.specs.Names.{directly_before, names_of, place_of}
 use Rattle.tf_graph.specs.Solutions.{Ranked}
 use Rattle.tf_config_names.specs.Needs.{Needs}
-use Rattle.tf_plan.specs.Plan.{IsPlan}
-use Rattle.tf_plan.specs.Refused.{AreRefused}
+use Rattle.tf_plan_planner.specs.Plan.{IsPlan}
+use Rattle.tf_plan_planner.specs.Refused.{AreRefused}
 use Rattle.tf_plan_data.specs.Plan.{PlanView, plan_names}
 use Rattle.tf_plan_text.specs.Text.{plan_text}
 use Rattle.tf_provider_protocol.specs.Meaning.{Meaning}
@@ -17,7 +17,7 @@ use Rattle.tf_state_data.specs.Addresses.{AreByAddress}
 use Rattle.tf_state_data.specs.Ids.{AreById}
 use Rattle.tf_state_data.specs.State.{StateView}
 use Rattle.tf_expr_syntax.specs.TemplateNames.{Pair}
-use Rattle.tf_value.specs.Tree.{Entries}
+use Rattle.tf_value_data.specs.Tree.{Entries}
 
 -- What is shown of the inputs of a plan when they are read: no name of the configuration needs itself; its blocks are in
 -- address order, and no block has the type `local`, which names locals; the resources of the prior state are in address order,

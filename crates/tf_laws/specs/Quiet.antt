@@ -9,7 +9,7 @@ use Rattle.tf_walk_report.specs.Report.{IsStateOf}
 use Rattle.tf_state_next.specs.After.{renewed}
 use Rattle.tf_state_data.specs.Record.{RecordView}
 use Rattle.tf_state_data.specs.State.{StateView, record_in}
-use Rattle.tf_value.specs.Tree.{Entries}
+use Rattle.tf_value_data.specs.Tree.{Entries}
 
 -- An object that had no record still has no record. An object that had one keeps it, possibly with other dependencies and
 -- another flag.

@@ -1,14 +1,14 @@
 -- Properties of configurations and variables that were read.
 use Rattle.std.specs.Prelude.{◌≡◌, ℕ, List, Option, Some}
 use Rattle.serde_json.specs.Data.{Data}
-use Rattle.tf_config.specs.Configuration.{IsConfiguration}
+use Rattle.tf_config_json.specs.Configuration.{IsConfiguration}
 use Rattle.tf_config_data.specs.Config.{ConfigView}
 use Rattle.tf_provider_protocol.specs.Meaning.{Meaning, schema_in}
 use Rattle.tf_provider_protocol.specs.Schema.{SchemaView, IsSchema}
 use Rattle.tf_state.specs.Valid.{IsValid}
 use Rattle.tf_state_data.specs.State.{StateView}
-use Rattle.tf_value.specs.Tree.{Entries}
-use Rattle.tf_config.specs.Values.{AreValues}
+use Rattle.tf_value_data.specs.Tree.{Entries}
+use Rattle.tf_config_json.specs.Values.{AreValues}
 use Rattle.tf_laws.specs.Reapply.{IsSound}
 use Rattle.tf_laws.specs.Twice.{HasOrderedOutputs, HasOwnNames}
 

@@ -1,8 +1,8 @@
 -- The laws that all laws of texts use.
-use Rattle.tf_config.specs.Laws.{BlocksAreInOrder, RefusedIsNotRead, RefusedOnce, StandsForOne}
+use Rattle.tf_config_json.specs.Laws.{BlocksAreInOrder, RefusedIsNotRead, RefusedOnce, StandsForOne}
 use Rattle.tf_laws.specs.Read.{ReadHasOwnNames}
 use Rattle.tf_state.specs.Laws.{EmptyIsValid, ReadIsValid, TextIsOfOne}
-use Rattle.tf_config.specs.VariableLaws.{ValuesAreFaultless, ValuesAreOne}
+use Rattle.tf_config_json.specs.VariableLaws.{ValuesAreFaultless, ValuesAreOne}
 
 -- The laws of what reading returns: of configurations, of their refusals, of values, and of states and their texts.
 pub record Laws : Type 0 where

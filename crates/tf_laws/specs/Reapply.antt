@@ -9,17 +9,17 @@ use Rattle.tf_plan_order.specs.AddressOrder.{AreInAddressOrder}
 use Rattle.tf_plan_object.specs.Instance.{instance_object}
 use Rattle.tf_config_data.specs.Config.{BlockView, ConfigView}
 use Rattle.tf_config_data.specs.Names.{a_block, meant_at}
-use Rattle.tf_expand.specs.InstanceKeys.{instance_keys}
-use Rattle.tf_expand.specs.Stages.{applying}
-use Rattle.tf_expand.specs.Resolved.{ResolvedView, AreResolvedNames, environment}
+use Rattle.tf_expand_keys.specs.InstanceKeys.{instance_keys}
+use Rattle.tf_expand_keys.specs.Stages.{applying}
+use Rattle.tf_expand_keys.specs.Resolved.{ResolvedView, AreResolvedNames, environment}
 use Rattle.tf_plan_order.specs.Members.{is_among}
 use Rattle.tf_state_next.specs.Laws.{IsInOrder}
 use Rattle.tf_walk_action.specs.Outcome.{AreOutcomes, AreRequests, ActionResultView, Requests, is_good}
 use Rattle.tf_walk_action.specs.declared.excuse.Excuse.{Excuse}
 use Rattle.tf_walk_action.specs.declared.excuse.Outcome.TheVariants.{Judged}
 use Rattle.tf_walk_outputs.specs.Outputs.{OutputResultView, valued}
-use Rattle.tf_plan.specs.Plan.{IsPlan}
-use Rattle.tf_plan.specs.Planned.{IsPlanned, unrefused}
+use Rattle.tf_plan_planner.specs.Plan.{IsPlan}
+use Rattle.tf_plan_planner.specs.Planned.{IsPlanned, unrefused}
 use Rattle.tf_plan_data.specs.Fits.{is_apply}
 use Rattle.tf_plan_data.specs.Plan.{PlanView, plan_names}
 use Rattle.tf_provider_protocol.specs.Meaning.{Meaning, schema_in}
@@ -30,8 +30,8 @@ use Rattle.tf_walk_report.specs.declared.report.Report.{Report}
 use Rattle.tf_plan_order.specs.ResourceIndex.{numbered}
 use Rattle.tf_state.specs.Valid.{IsValid}
 use Rattle.tf_state_data.specs.State.{StateView, state_of}
-use Rattle.tf_value.specs.Known.{known_entries}
-use Rattle.tf_value.specs.Tree.{Tree, Entries}
+use Rattle.tf_value_data.specs.Known.{known_entries}
+use Rattle.tf_value_data.specs.Tree.{Tree, Entries}
 use Rattle.tf_laws.specs.Rest.{AreAtRest, EachMeans}
 
 -- The inputs of a plan are sound: blocks are in address order, providers have schemas, the values of variables are known, and

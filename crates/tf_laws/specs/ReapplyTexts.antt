@@ -15,7 +15,7 @@ use Rattle.tf_laws.specs.Quiet.{IsRenewed}
 use Rattle.tf_cli_inputs.specs.Refusals.{at_state}
 use Rattle.tf_cli_inputs.specs.Texts.{AreTheValues, IsRead, Texts, the_texts}
 use Rattle.tf_walk_action.specs.declared.excuse.Outcome.TheVariants.{Judged}
-use Rattle.tf_plan.specs.Refused.{IsUnplanned}
+use Rattle.tf_plan_planner.specs.Refused.{IsUnplanned}
 use Rattle.tf_provider_protocol.specs.Meaning.{Meaning}
 use Rattle.tf_provider_protocol.specs.Schema.{SchemaView, IsSchema}
 use Rattle.tf_provider_protocol.specs.declared.verdict.Verdict.TheVariants.{Good}
@@ -24,7 +24,7 @@ use Rattle.tf_config_refusal.specs.Refusal.{RefusalView}
 use Rattle.tf_walk_report.specs.Report.{report_of}
 use Rattle.tf_state.specs.Table.{last_serial}
 use Rattle.tf_state_data.specs.State.{record_in}
-use Rattle.tf_value.specs.Tree.{Entries}
+use Rattle.tf_value_data.specs.Tree.{Entries}
 
 -- Each schema that a provider has for a type is one as `Schema::new` makes it: at most 200 attributes, in byte order of their
 -- names, which are distinct, valid and not reserved.

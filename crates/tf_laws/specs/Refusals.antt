@@ -2,7 +2,7 @@
 use Rattle.std.specs.Prelude.{◌≡◌, ◌≢◌, ◌⊎◌, ℕ, List, [], ◌∷◌, ⊤}
 use Rattle.tf_cli.specs.Applies.{IsPlanOf}
 use Rattle.tf_cli.specs.Refusals.{AreApplyRefusals, AreRefusals}
-use Rattle.tf_config.specs.Laws.{IsTemplateWay, IsUnspelled}
+use Rattle.tf_config_json.specs.Laws.{IsTemplateWay, IsUnspelled}
 use Rattle.tf_config_data.specs.Config.{ConfigView}
 use Rattle.tf_cli_inputs.specs.Refusals.{IsToldOf}
 use Rattle.tf_cli_inputs.specs.Texts.{ReadAs, Texts}
@@ -10,7 +10,7 @@ use Rattle.tf_plan_data.specs.Plan.{PlanView}
 use Rattle.tf_provider_protocol.specs.Meaning.{Meaning}
 use Rattle.tf_config_refusal.specs.Refusal.{RefusalView, fault, no_memory, Way}
 use Rattle.tf_state_data.specs.State.{StateView}
-use Rattle.tf_value.specs.Tree.{Entries}
+use Rattle.tf_value_data.specs.Tree.{Entries}
 
 -- If texts can be read, the only refusal of reading them is out of memory.
 abbrev pub ReadTextsAreNotRefused : Type 0

@@ -10,7 +10,7 @@ use Rattle.tf_walk_action.specs.Asked.{AreRequests, Requests, asked_for, op_of}
 use Rattle.tf_walk_action.specs.Objects.{prior_object}
 use Rattle.tf_walk_action.specs.Outcome.{AreOutcomes, ActionResultView, called, done_at}
 use Rattle.tf_walk_action.specs.declared.excuse.Excuse.{Excuse}
-use Rattle.tf_plan.specs.Plan.{IsPlan}
+use Rattle.tf_plan_planner.specs.Plan.{IsPlan}
 use Rattle.tf_plan_data.specs.Address.{address_text}
 use Rattle.tf_plan_data.specs.Fits.{deposed_key, is_apply}
 use Rattle.tf_plan_data.specs.Plan.{PlanView, plan_names}
@@ -18,9 +18,9 @@ use Rattle.tf_provider_protocol.specs.Meaning.{Answer, Asked, Meaning, schema_in
 use Rattle.tf_provider_protocol.specs.Schema.{SchemaView}
 use Rattle.tf_provider_protocol.specs.declared.verdict.Verdict.{Verdict}
 use Rattle.tf_state_data.specs.State.{StateView}
-use Rattle.tf_value.specs.Known.{known}
-use Rattle.tf_value.specs.Refinement.{Refines}
-use Rattle.tf_value.specs.Tree.{Tree, Entries, part_at}
+use Rattle.tf_value_data.specs.Known.{known}
+use Rattle.tf_value_data.specs.Refinement.{Refines}
+use Rattle.tf_value_data.specs.Tree.{Tree, Entries, part_at}
 
 -- the object that a step changes or destroys; a step that creates an object has no such object
 abbrev pub object_before : StepView → Option Tree

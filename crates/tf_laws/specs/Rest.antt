@@ -11,21 +11,21 @@ use Rattle.tf_plan_decision.specs.Stage.{records_at}
 use Rattle.tf_plan_decision.specs.Decision.{change, nothing}
 use Rattle.tf_plan_decision.specs.Ignored.{ignored_fault}
 use Rattle.tf_plan_decision.specs.Prior.{first_unfit}
-use Rattle.tf_expand.specs.InstanceKeys.{InstanceKeysView, instance_keys}
-use Rattle.tf_expand.specs.Stages.{applying}
-use Rattle.tf_expand.specs.Resolved.{ResolvedView, AreResolvedNames, environment}
+use Rattle.tf_expand_keys.specs.InstanceKeys.{InstanceKeysView, instance_keys}
+use Rattle.tf_expand_keys.specs.Stages.{applying}
+use Rattle.tf_expand_keys.specs.Resolved.{ResolvedView, AreResolvedNames, environment}
 use Rattle.tf_expr_eval.specs.Environment.{Environment}
 use Rattle.tf_expr_eval.specs.ExprMeaning.{meaning}
 use Rattle.tf_graph.specs.Solutions.{Ranked}
 use Rattle.tf_plan_order.specs.Members.{is_among, records_of}
-use Rattle.tf_plan.specs.Planned.{IsPlanned, unrefused}
+use Rattle.tf_plan_planner.specs.Planned.{IsPlanned, unrefused}
 use Rattle.tf_provider_protocol.specs.Meaning.{Meaning, schema_in}
 use Rattle.tf_provider_protocol.specs.Schema.{SchemaView}
 use Rattle.tf_plan_order.specs.ResourceIndex.{has_block, numbered}
 use Rattle.tf_state_data.specs.Record.{RecordView}
 use Rattle.tf_state_data.specs.Resource.{ResourceView}
 use Rattle.tf_expr_syntax.specs.ExprTree as expr
-use Rattle.tf_value.specs.Tree.{Tree, Entries}
+use Rattle.tf_value_data.specs.Tree.{Tree, Entries}
 
 -- An instance with these records is at rest in this environment: its only record is the current one and holds the instance's
 -- object, and no change of it is decided by what the instance's block gives.

@@ -4,13 +4,13 @@ use Rattle.std.specs.Cmp.Lexicographic.{slice_cmp}
 use Rattle.std.specs.List.{AllByRecursion}
 use Rattle.std.specs.List.Sorted.{IsStrictlySortedBy}
 use Rattle.std.specs.Ordering.{nat_cmp}
-use Rattle.tf_config.specs.Config.{names_in}
+use Rattle.tf_config_json.specs.Config.{names_in}
 use Rattle.tf_config_data.specs.Config.{ConfigView}
 use Rattle.tf_state_next.specs.Laws.{IsInOrder}
 use Rattle.tf_walk_action.specs.Outcome.{AreRequests, ActionResultView, Requests}
 use Rattle.tf_walk_action.specs.declared.excuse.Outcome.TheVariants.{Judged}
 use Rattle.tf_walk_outputs.specs.Outputs.{OutputResultView, outputs_after}
-use Rattle.tf_plan.specs.Plan.{IsPlan}
+use Rattle.tf_plan_planner.specs.Plan.{IsPlan}
 use Rattle.tf_plan_data.specs.Plan.{PlanView}
 use Rattle.tf_provider_protocol.specs.Meaning.{Meaning}
 use Rattle.tf_provider_protocol.specs.declared.verdict.Verdict.TheVariants.{Good}
@@ -19,7 +19,7 @@ use Rattle.tf_walk_report.specs.declared.report.Report.{Report}
 use Rattle.tf_state_data.specs.Record.{RecordView}
 use Rattle.tf_state_data.specs.Resource.{ResourceView}
 use Rattle.tf_state_data.specs.State.{StateView, state_of}
-use Rattle.tf_value.specs.Tree.{Entries}
+use Rattle.tf_value_data.specs.Tree.{Entries}
 use Rattle.tf_laws.specs.Reapply.{IsCarriedOut, IsSound, IsValued}
 
 -- ---- states but for their flags

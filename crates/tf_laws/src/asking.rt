@@ -2,10 +2,10 @@
 
 ghost use Rattle.tf_laws.specs.AskingLaws.{KnownAttributesStay, PlannedObjectsAreAsked, RequestsRefine};
 
-use tf_expand::standing_laws::{resolved_names_are_one, resolved_names_grow};
+use tf_expand_keys::standing_laws::{resolved_names_are_one, resolved_names_grow};
 use tf_plan_decision::laws::changes_have_a_cause;
 use tf_plan_object::laws::{objects_grow, updates_grow};
-use tf_value::known_values_stay;
+use tf_value_data::known_values_stay;
 
 /// If each instance's object in the plan refines to its object in the apply, the object that an action would request by the
 /// plan refines to the one that it requests. So each attribute that is known in the plan is unchanged in the request of each

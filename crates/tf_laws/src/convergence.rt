@@ -8,7 +8,7 @@ ghost use Rattle.tf_laws.specs.Read.{ReadHasOwnNames, ReadIsSound};
 ghost use Rattle.tf_laws.specs.Rest.{NothingIsPlannedAtRest, NothingIsRefusedAtRest};
 ghost use Rattle.tf_laws.specs.Twice.{ReportsSettle, SecondAppliesChangeFlags, SecondAppliesKeepObjects, SecondSerialsTell, ThirdAppliesChangeNothing, ThirdAppliesKeepRecords};
 
-use tf_expand::standing_laws::resolved_names_grow;
+use tf_expand_keys::standing_laws::resolved_names_grow;
 use tf_expr_operators::laws::known_stays_known;
 use tf_plan_object::laws::objects_grow;
 

@@ -4,8 +4,8 @@ ghost use Rattle.tf_laws.specs.Instances.{InstancesAreExpanded, InstancesStayInA
 ghost use Rattle.tf_laws.specs.Requests.{CallsAreAsPlanned, RequestsAreAsPlanned};
 
 use crate::asking::{planned_objects_are_asked, requests_grow};
-use tf_expand::expansion_laws::all_stand_where_none_is_refused;
-use tf_expand::standing_laws::{instances_stay, resolved_names_are_one, resolved_names_grow};
+use tf_expand_keys::expansion_laws::all_stand_where_none_is_refused;
+use tf_expand_keys::standing_laws::{instances_stay, resolved_names_are_one, resolved_names_grow};
 use tf_expr_eval::expr_knowledge_grows;
 
 /// If the instances that a resource needs agree with the plan, each request of its actions is as planned, and what the plan

@@ -18,7 +18,7 @@ use crate::convergence::{
 };
 use crate::plans::{planned_or_refused, plans_are_not_refused, plans_are_one, refusals_are_one};
 use crate::reports::{plans_are_founded, reports_are_one};
-use tf_config::{blocks_are_in_order, faultless_trees_stand, names_are_few, values_are_one};
+use tf_config_json::{blocks_are_in_order, faultless_trees_stand, names_are_few, values_are_one};
 use tf_state::{new_states_are_valid, read_states_are_valid, texts_are_of_one, texts_read_back};
 
 /// The results of reading have the laws in `Laws`, which all laws of texts use.
@@ -27,7 +27,7 @@ fn laws_of_reading()
 {
     faultless_trees_stand();
     blocks_are_in_order();
-    tf_config::refusals_are_one();
+    tf_config_json::refusals_are_one();
     values_are_one();
     read_states_are_valid();
     new_states_are_valid();
@@ -123,7 +123,7 @@ pub fn texts_converge()
 {
     faultless_trees_stand();
     blocks_are_in_order();
-    tf_config::refusals_are_one();
+    tf_config_json::refusals_are_one();
     values_are_one();
     read_states_are_valid();
     new_states_are_valid();

@@ -7,7 +7,7 @@ use Rattle.tf_plan_data.specs.declared.step.Step.TheVariants as rust
 use Rattle.tf_config_address.specs.ResourceAddr.{ResourceAddrView, addr_of}
 use Rattle.tf_config_address.specs.ObjectId.{InstanceKeyView, instance_key_of}
 use Rattle.tf_state_data.specs.declared.object.Object.{Object}
-use Rattle.tf_value.specs.Tree.{Tree, tree_of}
+use Rattle.tf_value_data.specs.Tree.{Tree, tree_of}
 
 -- What an action does to which object of an instance.
 pub data StepView : Type 0 where

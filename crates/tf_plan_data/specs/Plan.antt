@@ -3,12 +3,12 @@ use Rattle.std.specs.Prelude.{ℕ, Bool, false, List, map, slice_index_or}
 use Rattle.tf_plan_data.specs.Action.{ActionView, action_of}
 use Rattle.tf_config_data.specs.Config.{ConfigView, config_of}
 use Rattle.tf_config_data.specs.Names.{NameView, names_of}
-use Rattle.tf_expand.specs.InstanceKeys.{InstanceKeysView}
-use Rattle.tf_expand.specs.Views.{shapes_of}
+use Rattle.tf_expand_keys.specs.InstanceKeys.{InstanceKeysView}
+use Rattle.tf_expand_keys.specs.Views.{shapes_of}
 use Rattle.tf_graph.specs.Digraph.{Digraph}
 use Rattle.tf_config_names.specs.Needs.{needs_in}
 use Rattle.tf_state_data.specs.State.{StateView, state_of}
-use Rattle.tf_value.specs.Tree.{Entries, entries_view}
+use Rattle.tf_value_data.specs.Tree.{Entries, entries_view}
 use Rattle.tf_plan_data.specs.declared.plan.Plan.{Plan}
 
 -- A plan: the state that it starts from; the configuration, the values of its variables, which of its names needs which

@@ -1,6 +1,6 @@
 -- What contracts of the crates above cite of this crate and of those below, from one place.
 pub use Rattle.tf_config_data.specs.Words.{config_of, instance_key_of, addr_of, meant_at, names_of, unknown}
-pub use Rattle.tf_expand.specs.Words.{AreResolvedNames, entries_view, IsAcyclic, IsDependence, names_in, seen_by, shapes_of, resolved_names_of, ResolvedView, tree_of}
+pub use Rattle.tf_expand_keys.specs.Words.{AreResolvedNames, entries_view, IsAcyclic, IsDependence, names_in, seen_by, shapes_of, resolved_names_of, ResolvedView, tree_of}
 pub use Rattle.json.specs.Print.{quoted}
 pub use Rattle.serde_json.specs.Written.{comma_if}
 pub use Rattle.tf_plan_data.specs.Action.{action_of, step_of}
@@ -17,4 +17,4 @@ pub use Rattle.tf_plan_order.specs.Table.{numbered_in, resources_in}
 pub use Rattle.tf_state_data.specs.Record.{record_of}
 pub use Rattle.tf_state_data.specs.Resource.{resource_of}
 pub use Rattle.tf_state_data.specs.State.{state_of}
-pub use Rattle.tf_value.specs.Tree.{boolean, items_view, null, texts_view}
+pub use Rattle.tf_value_data.specs.Tree.{boolean, items_view, null, texts_view}

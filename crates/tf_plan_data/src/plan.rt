@@ -6,10 +6,10 @@ use crate::action::Action;
 use std::collections::BTreeMap;
 use tf_config_data::Config;
 use tf_config_names::Dependence;
-use tf_expand::InstanceKeys;
+use tf_expand_keys::InstanceKeys;
 use tf_plan_order::Order;
 use tf_state_data::State;
-use tf_value::Value;
+use tf_value_data::Value;
 
 /// A plan. An action is named by its place in the list of actions, which are in address order. What it is planned from
 /// is kept, as requests and outputs are worked out from it when the plan is carried out.

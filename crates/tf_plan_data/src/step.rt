@@ -8,7 +8,7 @@ ghost use Rattle.tf_plan_data.specs.Precedence.{is_half, kind_of};
 use tf_plan_order::ActionKind;
 use tf_provider_protocol::Op;
 use tf_state_data::Object;
-use tf_value::Value;
+use tf_value_data::Value;
 
 /// What an action does to an object of an instance. What is asked for has each attribute of the type's schema, unknown where
 /// the provider decides; what is there is as the state has it.

@@ -8,9 +8,9 @@ use Rattle.std.proofs.lemmas.Map.Text.{is_eq-slice_cmp}
 use Rattle.std.proofs.lemmas.Slice.Eq.{bytes_eq-Decides}
 use Rattle.tf_provider_protocol.specs.Schema.{AttributeView, ascends, is_below}
 use Rattle.tf_provider_protocol.specs.Verdict.{same_names}
-use Rattle.tf_value.specs.Equality.{same_Decides}
-use Rattle.tf_value.specs.Tree.{Tree, Entries, no_entries, entry, map, get, keys_of, part_at, same}
-use Rattle.tf_value.proofs.Conjunction.{and-first, and-second, and-both}
+use Rattle.tf_value_data.specs.Equality.{same_Decides}
+use Rattle.tf_value_data.specs.Tree.{Tree, Entries, no_entries, entry, map, get, keys_of, part_at, same}
+use Rattle.tf_value_data.proofs.Conjunction.{and-first, and-second, and-both}
 use Rattle.tf_plan_decision.specs.Differing.{differs, differing_entries}
 
 lt_not_eq : (o : Ordering) → is_lt o ≡ true → is_eq o ≡ true → ⊥

@@ -13,20 +13,20 @@ use Rattle.tf_plan_decision.specs.Rows.{AreDecided, AreOnce, NeedsAreWanted, gat
 use Rattle.tf_plan_decision.specs.Stage.{deciding}
 use Rattle.tf_plan_decision.specs.Whole.{nothing_decided}
 use Rattle.tf_plan_decision.specs.declared.collecting.Decided.{Decided}
-use Rattle.tf_expand.proofs.Keeping.{AreKept, earlier, kept_more, kept_start, next_standing, stood_is}
-use Rattle.tf_expand.proofs.Seen.{agree_on}
-use Rattle.tf_expand.specs.Kept.{AreClosed, AreResolved}
-use Rattle.tf_expand.specs.InstanceKeys.{InstanceKeysView}
-use Rattle.tf_expand.specs.Resolved.{ResolvedView, all_stand, environment}
-use Rattle.tf_expand.specs.Views.{resolved_of, resolved_names_of}
-use Rattle.tf_expand.specs.declared.resolved.Resolved.{Resolved}
+use Rattle.tf_expand_keys.proofs.Keeping.{AreKept, earlier, kept_more, kept_start, next_standing, stood_is}
+use Rattle.tf_expand_keys.proofs.Seen.{agree_on}
+use Rattle.tf_expand_keys.specs.Kept.{AreClosed, AreResolved}
+use Rattle.tf_expand_keys.specs.InstanceKeys.{InstanceKeysView}
+use Rattle.tf_expand_keys.specs.Resolved.{ResolvedView, all_stand, environment}
+use Rattle.tf_expand_keys.specs.Views.{resolved_of, resolved_names_of}
+use Rattle.tf_expand_keys.specs.declared.resolved.Resolved.{Resolved}
 use Rattle.tf_graph.proofs.Solving.{all_by_both, seen_by-same}
 use Rattle.tf_graph.specs.NodeSet.{has}
 use Rattle.tf_graph.specs.Order.{IsInOrder}
 use Rattle.tf_plan_order.specs.ResourceIndex.{ResourceRefView, a_name, an_orphan}
 use Rattle.tf_provider_protocol.specs.Meaning.{Meaning}
 use Rattle.tf_state_data.specs.Resource.{ResourceView}
-use Rattle.tf_value.specs.Tree.{Entries}
+use Rattle.tf_value_data.specs.Tree.{Entries}
 
 -- ---- rows
 

@@ -9,15 +9,15 @@ use Rattle.tf_plan_decision.specs.Outcome.{OutcomeView, member_outcome}
 use Rattle.tf_plan_decision.specs.Rows.{followed_by, gathered, row, with_row}
 use Rattle.tf_plan_decision.specs.Stage.{block_members}
 use Rattle.tf_plan_decision.specs.Whole.{decided, nothing_decided, with_meant, with_numbered}
-use Rattle.tf_expand.specs.InstanceKeys.{InstanceKeysView}
-use Rattle.tf_expand.specs.Resolved.{ResolvedView, all_stand, environment}
+use Rattle.tf_expand_keys.specs.InstanceKeys.{InstanceKeysView}
+use Rattle.tf_expand_keys.specs.Resolved.{ResolvedView, all_stand, environment}
 use Rattle.tf_expr_eval.specs.Environment.{Environment}
 use Rattle.tf_graph.specs.Solutions.{seen_by}
 use Rattle.tf_plan_order.specs.Members.{InstanceToPlanView}
 use Rattle.tf_plan_order.specs.ResourceIndex.{ResourceRefView, a_name, an_orphan}
 use Rattle.tf_provider_protocol.specs.Meaning.{Meaning, schema_in}
 use Rattle.tf_state_data.specs.Resource.{ResourceView}
-use Rattle.tf_value.specs.Tree.{Entries}
+use Rattle.tf_value_data.specs.Tree.{Entries}
 
 outcome_followed : (of : OfView) (i : ℕ) (key : InstanceKeyView) (o : OutcomeView) (d e : DecidedView) → with_outcome of i key o (followed_by d e) ≡ followed_by d (with_outcome of i key o e)
 outcome_followed of i key (Ok steps) d e = (λ j. record { actions = append_assoc d.actions e.actions (map (action of i key) steps) j; refusals = d.refusals ++ e.refusals })

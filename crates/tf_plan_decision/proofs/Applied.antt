@@ -6,7 +6,7 @@ use Rattle.tf_config_data.specs.Config.{LifecycleView}
 use Rattle.tf_provider_protocol.specs.Schema.{SchemaView}
 use Rattle.tf_provider_protocol.specs.Verdict.{contradiction, well_formed}
 use Rattle.tf_state_data.specs.Record.{RecordView}
-use Rattle.tf_value.specs.Tree.{Tree}
+use Rattle.tf_value_data.specs.Tree.{Tree}
 use Rattle.tf_plan_decision.specs.Decision.{DecisionView, nothing, create, update, replace, change, DecisionFaultView, unless_prevented, decided, unless_unfit, current}
 use Rattle.tf_plan_decision.specs.Ignored.{heeding, ignored_fault}
 use Rattle.tf_plan_decision.specs.Laws.{AnswersStay, IsAnswer, asked}

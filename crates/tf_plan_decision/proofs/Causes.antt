@@ -3,8 +3,8 @@ use Rattle.std.proofs.Common.{◌≡◌, ◌⊎◌, inl, inr, ℕ, Bool, true, f
 use Rattle.std.specs.List.{list_all}
 use Rattle.tf_plan_object.specs.Instance.{InstanceFaultView}
 use Rattle.tf_provider_protocol.specs.Schema.{SchemaView}
-use Rattle.tf_value.specs.Tree.{Tree}
-use Rattle.tf_value.proofs.Conjunction.{and-both}
+use Rattle.tf_value_data.specs.Tree.{Tree}
+use Rattle.tf_value_data.proofs.Conjunction.{and-both}
 use Rattle.tf_plan_decision.specs.Decision.{DecisionView, nothing, create, update, replace, update_or_replace, by_differing, beside, change, DecisionFaultView, unless_prevented, decided, unless_unfit, current}
 use Rattle.tf_plan_decision.specs.Differing.{differing, forces_new, forcing}
 use Rattle.tf_plan_decision.specs.Ignored.{heeding, ignored_fault}

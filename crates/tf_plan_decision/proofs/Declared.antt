@@ -8,7 +8,7 @@ use Rattle.tf_plan_decision.specs.Steps.{decided_steps}
 use Rattle.tf_plan_decision.specs.Decision.{DecisionView, DecisionFaultView, decision}
 use Rattle.tf_provider_protocol.specs.Schema.{SchemaView}
 use Rattle.tf_state_data.specs.Record.{RecordView}
-use Rattle.tf_value.specs.Tree.{Tree}
+use Rattle.tf_value_data.specs.Tree.{Tree}
 
 module _ (schema : SchemaView) (lifecycle : LifecycleView) (records : List RecordView) (planned object : Result Tree InstanceFaultView) (same : planned ≡ object) where
   pub steps_done : (d : DecisionView) (steps : List StepView) → steps ≡ decided_steps records d → Ok d ≡ decision schema lifecycle records planned

@@ -5,10 +5,10 @@ use Rattle.std.specs.Option.{option_map_or}
 use Rattle.std.specs.Str.{bytes_eq}
 use Rattle.tf_provider_protocol.specs.Schema.{AttributeView, SchemaView, IsSchema}
 use Rattle.tf_provider_protocol.specs.Verdict.{has_attributes}
-use Rattle.tf_value.specs.Equality.{same_Decides}
-use Rattle.tf_value.specs.Known.{known, known_entries}
-use Rattle.tf_value.specs.Tree.{Tree, null, boolean, whole, text, list, map, set, unknown, Entries, no_entries, entry, get, same}
-use Rattle.tf_value.proofs.Conjunction.{and-first, and-second, and-both}
+use Rattle.tf_value_data.specs.Equality.{same_Decides}
+use Rattle.tf_value_data.specs.Known.{known, known_entries}
+use Rattle.tf_value_data.specs.Tree.{Tree, null, boolean, whole, text, list, map, set, unknown, Entries, no_entries, entry, get, same}
+use Rattle.tf_value_data.proofs.Conjunction.{and-first, and-second, and-both}
 use Rattle.tf_plan_decision.specs.Decision.{nothing, replace, update_or_replace, by_differing, beside}
 use Rattle.tf_plan_decision.specs.Differing.{differs, differing, forcing}
 use Rattle.tf_plan_object.specs.Kept.{kept_object}

@@ -12,8 +12,8 @@ use Rattle.std.proofs.lemmas.Slice.Eq.{bytes_eq-Decides}
 use Rattle.tf_provider_protocol.specs.Schema.{AttributeView, SchemaView, ascends, attribute_named, is_below}
 use Rattle.tf_provider_protocol.specs.Verdict.{is_allowed, same_names}
 use Rattle.tf_provider_protocol.proofs.Placed.{below-trans}
-use Rattle.tf_value.specs.Tree.{Tree, null, boolean, whole, text, list, map, set, unknown, Entries, no_entries, entry, get, keys_of}
-use Rattle.tf_value.proofs.Conjunction.{and-first, and-second, and-both}
+use Rattle.tf_value_data.specs.Tree.{Tree, null, boolean, whole, text, list, map, set, unknown, Entries, no_entries, entry, get, keys_of}
+use Rattle.tf_value_data.proofs.Conjunction.{and-first, and-second, and-both}
 use Rattle.tf_plan_decision.specs.Laws.{FitsExactly}
 use Rattle.tf_plan_decision.specs.Names.{first_name, sooner_name}
 use Rattle.tf_plan_decision.specs.Prior.{PriorFaultView, as_a_whole, at_attribute, all_misfits, has_allowed, misfits, strays}

@@ -19,8 +19,8 @@ use Rattle.tf_plan_decision.specs.Decision as decision
 use Rattle.tf_plan_decision.specs.Decision.{DecisionView, DecisionFaultView, current, decided, removal_fault, unless_prevented, unless_unfit}
 use Rattle.tf_plan_decision.specs.Ignored.{heeding, ignored_fault}
 use Rattle.tf_plan_decision.specs.Prior.{PriorFaultView, first_unfit}
-use Rattle.tf_expand.specs.InstanceKeys.{InstanceKeysView, one, many, named, instance_keys, list_of, map_under, objects_at}
-use Rattle.tf_expand.specs.Resolved.{ResolvedView, together}
+use Rattle.tf_expand_keys.specs.InstanceKeys.{InstanceKeysView, one, many, named, instance_keys, list_of, map_under, objects_at}
+use Rattle.tf_expand_keys.specs.Resolved.{ResolvedView, together}
 use Rattle.tf_expr_eval.specs.Environment.{Environment}
 use Rattle.tf_expr_operators.specs.Answer.{limited}
 use Rattle.tf_plan_order.proofs.InstanceOrder.{key_exact, key_total, same_ordered}
@@ -31,7 +31,7 @@ use Rattle.tf_provider_protocol.specs.Schema.{SchemaView}
 use Rattle.tf_state_data.proofs.Edits.{Keeping}
 use Rattle.tf_state_data.specs.Record.{RecordView}
 use Rattle.tf_state_data.specs.Resource.{ResourceView}
-use Rattle.tf_value.specs.Tree.{Tree}
+use Rattle.tf_value_data.specs.Tree.{Tree}
 
 -- ---- the list of what becomes of members
 

@@ -8,9 +8,9 @@ use Rattle.std.proofs.lemmas.Slice.Eq.{bytes_eq-Decides}
 use Rattle.std.proofs.lemmas.List.{append_assoc}
 use Rattle.tf_provider_protocol.specs.Schema.{AttributeView, SchemaView, attribute_named}
 use Rattle.tf_provider_protocol.specs.Verdict.{fits, fits_in, has_attributes, is_allowed, same_names}
-use Rattle.tf_value.specs.Stored.{may_be_stored}
-use Rattle.tf_value.specs.Tree.{Tree, map, Entries, no_entries, entry, get, keys_of}
-use Rattle.tf_value.proofs.Conjunction.{and-first, and-second}
+use Rattle.tf_value_data.specs.Stored.{may_be_stored}
+use Rattle.tf_value_data.specs.Tree.{Tree, map, Entries, no_entries, entry, get, keys_of}
+use Rattle.tf_value_data.proofs.Conjunction.{and-first, and-second}
 use Rattle.tf_plan_decision.specs.Laws.{GoodRepliesFit}
 use Rattle.tf_plan_decision.specs.Names.{first_name}
 use Rattle.tf_plan_decision.specs.Prior.{as_a_whole, at_attribute, all_misfits, misfits, prior_fault, strays}

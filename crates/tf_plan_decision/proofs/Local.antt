@@ -10,11 +10,11 @@ use Rattle.tf_plan_decision.specs.Locality.{DecidingIsLocal}
 use Rattle.tf_plan_decision.specs.Outcome.{by_decision, member_outcome, removal_outcome}
 use Rattle.tf_plan_decision.specs.Stage.{all_can_go, block_members, decided_object, object_of, object_unless_refused, records_at}
 use Rattle.tf_plan_decision.specs.Decision.{decision}
-use Rattle.tf_expand.proofs.Locals.{together_same}
+use Rattle.tf_expand_keys.proofs.Locals.{together_same}
 use Rattle.tf_expr_eval.proofs.Locality.{expressions_local}
 use Rattle.tf_expr_eval.specs.Environment.{Environment}
 use Rattle.tf_expr_eval.specs.Locality.{AgreeOn}
-use Rattle.tf_expand.specs.InstanceKeys.{InstanceKeysView}
+use Rattle.tf_expand_keys.specs.InstanceKeys.{InstanceKeysView}
 use Rattle.tf_plan_order.specs.Members.{InstanceToPlanView, records_of}
 use Rattle.tf_provider_protocol.specs.Meaning.{Meaning, schema_in}
 use Rattle.tf_provider_protocol.specs.Schema.{SchemaView}

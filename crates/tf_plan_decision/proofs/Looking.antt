@@ -7,13 +7,13 @@ use Rattle.std.specs.Slice.{IsItemAt}
 use Rattle.std.specs.declared.alloc.AllocError.{AllocError}
 use Rattle.tf_config_data.specs.Names.{NameView, Meant, a_local, a_block, directly_before, meant_at}
 use Rattle.tf_config_names.specs.Table.{names_in}
-use Rattle.tf_expand.specs.InstanceKeys.{InstanceKeysView}
-use Rattle.tf_expand.specs.Resolved.{ResolvedView, all_stand, environment, stands_at, where_all}
-use Rattle.tf_expand.specs.Views.{resolved_of, shape_of, shapes_of}
-use Rattle.tf_expand.specs.Words.{seen_by}
-use Rattle.tf_expand.specs.declared.shape.InstanceKeys.{InstanceKeys}
-use Rattle.tf_expand.specs.declared.shape.InstanceKeys.TheVariants.{One}
-use Rattle.tf_expand.specs.declared.table.ModuleParts.{ModuleParts}
+use Rattle.tf_expand_keys.specs.InstanceKeys.{InstanceKeysView}
+use Rattle.tf_expand_keys.specs.Resolved.{ResolvedView, all_stand, environment, stands_at, where_all}
+use Rattle.tf_expand_keys.specs.Views.{resolved_of, shape_of, shapes_of}
+use Rattle.tf_expand_keys.specs.Words.{seen_by}
+use Rattle.tf_expand_keys.specs.declared.shape.InstanceKeys.{InstanceKeys}
+use Rattle.tf_expand_keys.specs.declared.shape.InstanceKeys.TheVariants.{One}
+use Rattle.tf_expand_keys.specs.declared.table.ModuleParts.{ModuleParts}
 use Rattle.tf_plan_decision.specs.Deciding.{decided_of, with_block}
 use Rattle.tf_plan_decision.specs.Rows.{row}
 use Rattle.tf_plan_decision.specs.Stage.{deciding}
@@ -21,7 +21,7 @@ use Rattle.tf_plan_decision.specs.Whole.{nothing_decided}
 use Rattle.tf_plan_decision.specs.declared.planned_values.Looked.{Looked}
 use Rattle.tf_provider_protocol.specs.Meaning.{Meaning}
 use Rattle.tf_state_data.specs.Resource.{ResourceView}
-use Rattle.tf_value.specs.Tree.{Entries, entries_view}
+use Rattle.tf_value_data.specs.Tree.{Entries, entries_view}
 
 -- how the instances of a resource stand together, by what is found at its place
 pub shape_found : (shapes : List InstanceKeys) (p : ℕ) (found is : Option (Bor InstanceKeys)) → IsItemAt shapes p found → found ≡ is → shapes_of shapes p ≡ shape_of (unwrap_or (option_map (λ (b : Bor InstanceKeys). b.now) is) One)

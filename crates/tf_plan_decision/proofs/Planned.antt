@@ -4,9 +4,9 @@ use Rattle.std.specs.List.{list_all}
 use Rattle.std.specs.Option.{option_map_or}
 use Rattle.tf_provider_protocol.specs.Schema.{AttributeView, SchemaView, IsSchema}
 use Rattle.tf_provider_protocol.specs.Verdict.{has_attributes}
-use Rattle.tf_value.specs.Known.{known, known_entries}
-use Rattle.tf_value.specs.Tree.{Tree, map, Entries, get}
-use Rattle.tf_value.proofs.Conjunction.{and-both}
+use Rattle.tf_value_data.specs.Known.{known, known_entries}
+use Rattle.tf_value_data.specs.Tree.{Tree, map, Entries, get}
+use Rattle.tf_value_data.proofs.Conjunction.{and-both}
 use Rattle.tf_plan_decision.specs.Differing.{differing}
 use Rattle.tf_plan_object.specs.Kept.{is_kept, kept_object}
 use Rattle.tf_plan_decision.specs.Laws.{BesidePlannedNothingIsDone}

@@ -6,14 +6,14 @@ use Rattle.tf_provider_protocol.specs.Schema.{AttributeView, SchemaView, IsSchem
 use Rattle.tf_provider_protocol.specs.Verdict.{contradiction, contradicts, contradicts_at, fits, fits_in, has_attributes, is_allowed, is_good_verdict, well_formed}
 use Rattle.tf_provider_protocol.specs.declared.verdict.Verdict.TheVariants.{Good, Contradicted, Malformed}
 use Rattle.tf_state_data.specs.Record.{RecordView}
-use Rattle.tf_value.specs.Equality.{same_Decides}
-use Rattle.tf_value.specs.Known.{known}
-use Rattle.tf_value.specs.Refinement.{Refines, refined}
-use Rattle.tf_value.specs.Stored.{may_be_planned, may_be_stored}
-use Rattle.tf_value.specs.Tree.{Tree, map, part_at, same, Entries, no_entries, entry}
-use Rattle.tf_value.proofs.Conjunction.{and-first, and-second, and-both}
-use Rattle.tf_value.proofs.Order.{Refines-known}
-use Rattle.tf_value.proofs.Refining.{refined_Decides}
+use Rattle.tf_value_data.specs.Equality.{same_Decides}
+use Rattle.tf_value_data.specs.Known.{known}
+use Rattle.tf_value_data.specs.Refinement.{Refines, refined}
+use Rattle.tf_value_data.specs.Stored.{may_be_planned, may_be_stored}
+use Rattle.tf_value_data.specs.Tree.{Tree, map, part_at, same, Entries, no_entries, entry}
+use Rattle.tf_value_data.proofs.Conjunction.{and-first, and-second, and-both}
+use Rattle.tf_value_data.proofs.Order.{Refines-known}
+use Rattle.tf_value_data.proofs.Refining.{refined_Decides}
 use Rattle.tf_plan_decision.specs.Decision.{replace, update_or_replace, by_differing, beside, change}
 use Rattle.tf_plan_decision.specs.Differing.{differs, differing, differing_entries, forcing}
 use Rattle.tf_plan_object.specs.Kept.{is_kept, kept_entries, kept_object, kept_value}

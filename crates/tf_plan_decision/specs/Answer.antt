@@ -2,7 +2,7 @@
 use Rattle.std.specs.Prelude.{ℕ, List, map, String, string_bytes, Result, Ok, Err}
 use Rattle.std.specs.declared.alloc.Global.{Global}
 use Rattle.tf_plan_object.specs.Instance.{instance_fault_of}
-use Rattle.tf_value.specs.Tree.{tree_of}
+use Rattle.tf_value_data.specs.Tree.{tree_of}
 use Rattle.tf_plan_decision.specs.Decision.{DecisionView, nothing, create, update, replace, DecisionFaultView, no_provider, unfit, faulty, prevented}
 use Rattle.tf_plan_decision.specs.Prior.{PriorFaultView, as_a_whole, at_attribute}
 use Rattle.tf_plan_decision.specs.declared.decision.Decision.{Decision}

@@ -12,7 +12,7 @@ use Rattle.tf_plan_decision.specs.Decision.{DecisionFaultView}
 use Rattle.tf_plan_decision.specs.declared.collecting.Decided.{Decided}
 use Rattle.tf_plan_decision.specs.declared.collecting.OutcomeOf.{OutcomeOf}
 use Rattle.tf_plan_decision.specs.declared.collecting.RefusedInstance.{RefusedInstance}
-use Rattle.tf_expand.specs.InstanceKeys.{InstanceKeysView}
+use Rattle.tf_expand_keys.specs.InstanceKeys.{InstanceKeysView}
 use Rattle.tf_expr_eval.specs.Environment.{Environment}
 use Rattle.tf_plan_order.specs.Members.{InstanceToPlanView, members}
 use Rattle.tf_provider_protocol.specs.Meaning.{Meaning, schema_in}

@@ -2,8 +2,8 @@
 use Rattle.std.specs.Prelude.{ℕ, Bool, true, false, ◌||◌, not, if◌then◌else◌, List, [], ◌∷◌, filter, Option, Some, None}
 use Rattle.std.specs.Option.{option_map_or}
 use Rattle.tf_provider_protocol.specs.Schema.{SchemaView, attribute_named}
-use Rattle.tf_value.specs.Known.{known}
-use Rattle.tf_value.specs.Tree.{Tree, Entries, no_entries, entry, map, part_at, same}
+use Rattle.tf_value_data.specs.Known.{known}
+use Rattle.tf_value_data.specs.Tree.{Tree, Entries, no_entries, entry, map, part_at, same}
 
 -- A value differs from the prior one where the two aren't equal, or something in it isn't known yet.
 abbrev pub differs : Option Tree → Tree → Bool

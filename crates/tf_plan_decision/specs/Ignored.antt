@@ -4,7 +4,7 @@ use Rattle.tf_plan_object.specs.Instance.{InstanceFaultView, for_each_fault, arg
 use Rattle.tf_plan_object.specs.Planned.{NamedFaultView}
 use Rattle.tf_plan_object.specs.declared.argument.ArgumentFault.TheVariants.{BadArgument}
 use Rattle.tf_provider_protocol.specs.Schema.{SchemaView, attribute_named, is_below}
-use Rattle.tf_value.specs.Tree.{Tree}
+use Rattle.tf_value_data.specs.Tree.{Tree}
 use Rattle.tf_plan_decision.specs.Names.{first_name}
 
 -- the names among these that no attribute has

@@ -7,8 +7,8 @@ use Rattle.tf_config_data.specs.Config.{LifecycleView}
 use Rattle.tf_provider_protocol.specs.Schema.{AttributeView, SchemaView, IsSchema}
 use Rattle.tf_provider_protocol.specs.Verdict.{has_attributes, is_allowed, is_good_verdict, verdict_on_object, well_formed}
 use Rattle.tf_state_data.specs.Record.{RecordView}
-use Rattle.tf_value.specs.Known.{known}
-use Rattle.tf_value.specs.Tree.{Tree, IsSorted, part_at}
+use Rattle.tf_value_data.specs.Known.{known}
+use Rattle.tf_value_data.specs.Tree.{Tree, IsSorted, part_at}
 use Rattle.tf_plan_decision.specs.Decision.{DecisionView, nothing, create, update, replace, change, decision}
 use Rattle.tf_plan_decision.specs.Differing.{differing, forces_new, forcing}
 use Rattle.tf_plan_object.specs.Kept.{is_kept, kept_object}

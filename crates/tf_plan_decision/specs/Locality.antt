@@ -1,8 +1,8 @@
 -- What holds of the stage of a plan from any prior state.
 use Rattle.std.specs.Prelude.{ℕ, List}
 use Rattle.tf_plan_decision.specs.Stage.{deciding}
-use Rattle.tf_expand.specs.StandingLaws.{IsLocal}
-use Rattle.tf_expand.specs.InstanceKeys.{InstanceKeysView}
+use Rattle.tf_expand_keys.specs.StandingLaws.{IsLocal}
+use Rattle.tf_expand_keys.specs.InstanceKeys.{InstanceKeysView}
 use Rattle.tf_provider_protocol.specs.Meaning.{Meaning}
 use Rattle.tf_state_data.specs.Resource.{ResourceView}
 

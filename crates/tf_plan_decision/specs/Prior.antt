@@ -4,7 +4,7 @@ use Rattle.std.specs.Option.{option_map_or, option_or}
 use Rattle.tf_provider_protocol.specs.Schema.{AttributeView, SchemaView, attribute_named}
 use Rattle.tf_provider_protocol.specs.Verdict.{is_allowed}
 use Rattle.tf_state_data.specs.Record.{RecordView}
-use Rattle.tf_value.specs.Tree.{Tree, Entries, no_entries, entry, map, get}
+use Rattle.tf_value_data.specs.Tree.{Tree, Entries, no_entries, entry, map, get}
 use Rattle.tf_plan_decision.specs.Names.{first_name}
 
 -- How a prior object doesn't fit: as a whole, or at an attribute.

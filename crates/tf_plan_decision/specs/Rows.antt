@@ -7,13 +7,13 @@ use Rattle.tf_plan_decision.specs.Deciding.{DecidedView, decided_of, with_orphan
 use Rattle.tf_plan_decision.specs.Stage.{deciding}
 use Rattle.tf_plan_decision.specs.Whole.{nothing_decided, with_meant}
 use Rattle.tf_plan_decision.specs.declared.collecting.Decided.{Decided}
-use Rattle.tf_expand.specs.InstanceKeys.{InstanceKeysView}
-use Rattle.tf_expand.specs.Resolved.{ResolvedView, AreResolvedNames}
+use Rattle.tf_expand_keys.specs.InstanceKeys.{InstanceKeysView}
+use Rattle.tf_expand_keys.specs.Resolved.{ResolvedView, AreResolvedNames}
 use Rattle.tf_graph.specs.NodeSet.{has}
 use Rattle.tf_plan_order.specs.ResourceIndex.{ResourceRefView, a_name, an_orphan}
 use Rattle.tf_provider_protocol.specs.Meaning.{Meaning}
 use Rattle.tf_state_data.specs.Resource.{ResourceView}
-use Rattle.tf_value.specs.Tree.{Entries}
+use Rattle.tf_value_data.specs.Tree.{Entries}
 
 -- what is decided, and more behind it
 abbrev pub followed_by : DecidedView → DecidedView → DecidedView

@@ -8,14 +8,14 @@ use Rattle.tf_plan_decision.specs.Outcome.{OutcomeView}
 use Rattle.tf_plan_decision.specs.Views.{outcome_of}
 use Rattle.tf_plan_decision.specs.declared.settling.Settled.{Settled}
 use Rattle.tf_plan_decision.specs.Decision.{current}
-use Rattle.tf_expand.specs.InstanceKeys.{InstanceKeysView}
-use Rattle.tf_expand.specs.Resolved.{ResolvedView, together}
+use Rattle.tf_expand_keys.specs.InstanceKeys.{InstanceKeysView}
+use Rattle.tf_expand_keys.specs.Resolved.{ResolvedView, together}
 use Rattle.tf_plan_data.specs.Action.{StepView, create, update, replacement}
 use Rattle.tf_plan_order.specs.MemberViews.{member_of}
 use Rattle.tf_plan_order.specs.Members.{InstanceToPlanView}
 use Rattle.tf_state_data.specs.Order.{at_key}
 use Rattle.tf_state_data.specs.Record.{RecordView}
-use Rattle.tf_value.specs.Tree.{Tree}
+use Rattle.tf_value_data.specs.Tree.{Tree}
 
 -- A member of a resource under its number, and what becomes of it.
 pub record SettledView : Type 0 where

@@ -7,8 +7,8 @@ use Rattle.tf_config_address.specs.ObjectId.{InstanceKeyView}
 use Rattle.tf_plan_object.specs.Instance.{instance_object}
 use Rattle.tf_config_data.specs.Config.{BlockView, LifecycleView}
 use Rattle.tf_plan_decision.specs.Decision.{DecisionView, DecisionFaultView, nothing, create, update, replace, current, decision, removal_fault}
-use Rattle.tf_expand.specs.InstanceKeys.{InstanceKeysView, instance_keys}
-use Rattle.tf_expand.specs.Resolved.{ResourceValuesView, ResolvedView, together}
+use Rattle.tf_expand_keys.specs.InstanceKeys.{InstanceKeysView, instance_keys}
+use Rattle.tf_expand_keys.specs.Resolved.{ResourceValuesView, ResolvedView, together}
 use Rattle.tf_expr_eval.specs.Environment.{Environment}
 use Rattle.tf_plan_order.specs.Members.{InstanceToPlanView, members, records_of}
 use Rattle.tf_provider_protocol.specs.Meaning.{Meaning, schema_in}
@@ -16,7 +16,7 @@ use Rattle.tf_provider_protocol.specs.Schema.{SchemaView}
 use Rattle.tf_state_data.specs.Record.{RecordView}
 use Rattle.tf_state_data.specs.Resource.{ResourceView}
 use Rattle.tf_state_data.specs.State.{resource_at}
-use Rattle.tf_value.specs.Tree.{Tree}
+use Rattle.tf_value_data.specs.Tree.{Tree}
 
 -- the records of the resource at an address; where the state hasn't got it there are none
 abbrev pub records_at : ResourceAddrView → List ResourceView → List RecordView

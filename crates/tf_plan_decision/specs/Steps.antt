@@ -5,7 +5,7 @@ use Rattle.tf_plan_data.specs.Action.{StepView, create, update, replacement, rep
 use Rattle.tf_plan_decision.specs.Decision.{DecisionView, current}
 use Rattle.tf_plan_decision.specs.Decision as decision
 use Rattle.tf_state_data.specs.Record.{RecordView}
-use Rattle.tf_value.specs.Tree.{Tree}
+use Rattle.tf_value_data.specs.Tree.{Tree}
 
 -- What a decision does beside the current object: nothing, one step, or the two halves of a replace, of which the one that
 -- makes the new object stands first. Without a current object there is nothing to update or to replace.

@@ -2,13 +2,13 @@
 use Rattle.std.specs.Prelude.{ℕ, if◌then◌else◌, List, [], Option, Some, None, fold, slice_get}
 use Rattle.tf_config_data.specs.Names.{NameView, Meant, a_local, a_block, directly_before}
 use Rattle.tf_plan_decision.specs.Deciding.{DecidedView, with_block, with_orphan}
-use Rattle.tf_expand.specs.InstanceKeys.{InstanceKeysView}
-use Rattle.tf_expand.specs.Resolved.{ResolvedView, all_stand, environment}
+use Rattle.tf_expand_keys.specs.InstanceKeys.{InstanceKeysView}
+use Rattle.tf_expand_keys.specs.Resolved.{ResolvedView, all_stand, environment}
 use Rattle.tf_graph.specs.Solutions.{seen_by}
 use Rattle.tf_provider_protocol.specs.Meaning.{Meaning}
 use Rattle.tf_plan_order.specs.ResourceIndex.{ResourceRefView, a_name, an_orphan}
 use Rattle.tf_state_data.specs.Resource.{ResourceView}
-use Rattle.tf_value.specs.Tree.{Entries}
+use Rattle.tf_value_data.specs.Tree.{Entries}
 
 -- before any instance is looked at
 abbrev pub nothing_decided : DecidedView

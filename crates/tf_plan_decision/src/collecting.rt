@@ -2,7 +2,7 @@
 
 ghost use Rattle.std.specs.Prelude.{◌≡◌, ◌++◌, IfOk, OnOk, map, option_map};
 ghost use Rattle.tf_plan_data.specs.Action.{action_of};
-ghost use Rattle.tf_expand.specs.Words.{instance_key_of};
+ghost use Rattle.tf_expand_keys.specs.Words.{instance_key_of};
 ghost use Rattle.tf_plan_decision.specs.Deciding.{action, decided_of, of_view, version_of, with_members, with_orphan, with_outcome};
 ghost use Rattle.tf_plan_decision.specs.Outcome.{orphan_outcome};
 ghost use Rattle.tf_plan_decision.specs.Rows.{followed_by};

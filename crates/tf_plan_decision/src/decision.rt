@@ -4,7 +4,7 @@ ghost use Rattle.std.specs.Prelude.{◌≡◌, IfOk, map, option_map, string_byt
 ghost use Rattle.tf_plan_object.specs.Instance.{instance_of};
 ghost use Rattle.tf_config_data.specs.Config.{lifecycle_of};
 ghost use Rattle.tf_state_data.specs.Record.{record_of};
-ghost use Rattle.tf_value.specs.Tree.{tree_of};
+ghost use Rattle.tf_value_data.specs.Tree.{tree_of};
 ghost use Rattle.tf_plan_decision.specs.Answer.{answer_of, decision_of, decision_fault_of};
 ghost use Rattle.tf_plan_decision.specs.Decision.{beside, change, current, decision, is_protected, removal_fault, unless_prevented};
 
@@ -16,7 +16,7 @@ use tf_config_data::Lifecycle;
 use tf_plan_object::{InstanceFault, kept_object};
 use tf_provider_protocol::Schema;
 use tf_state_data::Record;
-use tf_value::Value;
+use tf_value_data::Value;
 
 /// What is done about an instance.
 #[derive(Debug, Drop)]

@@ -1,13 +1,13 @@
 //! The attributes in which an object differs from the prior one.
 
 ghost use Rattle.std.specs.Prelude.{◌≡◌, IfOk, option_map, map, string_bytes};
-ghost use Rattle.tf_value.specs.Tree.{tree_of, entries_view};
+ghost use Rattle.tf_value_data.specs.Tree.{tree_of, entries_view};
 ghost use Rattle.tf_plan_decision.specs.Differing.{differing, differing_entries, differs, forces_new, forcing};
 
 use std::alloc::{AllocError, Global};
 use std::collections::BTreeMap;
 use tf_provider_protocol::Schema;
-use tf_value::{Value, is_known};
+use tf_value_data::{Value, is_known};
 
 /// The names of the attributes in which an object differs from the prior one, in byte order.
 pub(crate) fn differing(

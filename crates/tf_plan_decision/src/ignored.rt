@@ -9,7 +9,7 @@ use crate::names::sooner;
 use std::alloc::{AllocError, Global};
 use tf_plan_object::{ArgumentFault, InstanceFault};
 use tf_provider_protocol::Schema;
-use tf_value::Value;
+use tf_value_data::Value;
 
 /// The first name, in byte order, among those whose changes are ignored, that no attribute of the schema has.
 pub fn ignored_fault<'a>(schema: &Schema, ignored: &'a [String]) -> Option<&'a str>

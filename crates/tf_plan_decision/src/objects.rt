@@ -3,7 +3,7 @@
 ghost use Rattle.std.specs.List.Sorted.{IsStrictlySortedBy, IsStrictlySortedBy-prop};
 ghost use Rattle.std.specs.Prelude.{◌≡◌, if◌then◌else◌, IfOk, map, None, option_map};
 ghost use Rattle.tf_config_address.specs.ObjectId.{instance_key_cmp};
-ghost use Rattle.tf_expand.specs.Words.{instance_key_of, addr_of, shape_of, resolved_of, tree_of};
+ghost use Rattle.tf_expand_keys.specs.Words.{instance_key_of, addr_of, shape_of, resolved_of, tree_of};
 ghost use Rattle.tf_plan_decision.specs.Settling.{all_free, asked_by, asked_in, is_free, settled_at, settled_key, settled_object, settled_of, settled_standing, stood_for};
 ghost use Rattle.tf_plan_decision.specs.Stage.{records_at};
 ghost use Rattle.tf_plan_decision.specs.Views.{outcome_of, steps_of};
@@ -16,10 +16,10 @@ use crate::decision::{DecisionFault, current};
 use crate::settling::Settled;
 use std::alloc::{AllocError, Global};
 use tf_config_address::{InstanceKey, ResourceAddr};
-use tf_expand::{InstanceKeys, Keyed, Resolved, collect_instances};
+use tf_expand_keys::{InstanceKeys, Keyed, Resolved, collect_instances};
 use tf_plan_data::Step;
 use tf_state_data::{Record, State};
-use tf_value::Value;
+use tf_value_data::Value;
 
 /// The records of the resource at an address; none where the state hasn't got it.
 pub(crate) fn records_at<'a>(state: &'a State, addr: &ResourceAddr) -> &'a [Record]

@@ -1,7 +1,7 @@
 //! What is decided of a block, and what it stands for by that.
 
 ghost use Rattle.std.specs.Prelude.{◌≡◌, if◌then◌else◌, IfOk, map, None};
-ghost use Rattle.tf_expand.specs.Words.{block_at, addr_of, shape_of, resolved_of};
+ghost use Rattle.tf_expand_keys.specs.Words.{block_at, addr_of, shape_of, resolved_of};
 ghost use Rattle.tf_plan_decision.specs.Deciding.{decided_of, with_block};
 ghost use Rattle.tf_plan_decision.specs.Stage.{block_members, block_standing};
 ghost use Rattle.tf_plan_decision.specs.Whole.{nothing_decided};
@@ -14,7 +14,7 @@ use crate::settling::settle;
 use std::alloc::{AllocError, Global};
 use tf_config_address::ResourceAddr;
 use tf_config_data::Block;
-use tf_expand::{InstanceKeys, Resolved, ResourceInScope};
+use tf_expand_keys::{InstanceKeys, Resolved, ResourceInScope};
 use tf_expr_eval::Scope;
 use tf_plan_order::{InstanceToPlan, members};
 use tf_provider_protocol::{Provider, schema_for};

@@ -3,7 +3,7 @@
 ghost use Rattle.std.specs.Prelude.{◌≡◌, fold, map, IfOk, option_map};
 ghost use Rattle.tf_provider_protocol.specs.Schema.{attribute_of};
 ghost use Rattle.tf_state_data.specs.Record.{record_of};
-ghost use Rattle.tf_value.specs.Tree.{entries_view};
+ghost use Rattle.tf_value_data.specs.Tree.{entries_view};
 ghost use Rattle.tf_plan_decision.specs.Answer.{prior_fault_of};
 ghost use Rattle.tf_plan_decision.specs.Names.{first_name, sooner_name};
 ghost use Rattle.tf_plan_decision.specs.Prior.{all_misfits, first_unfit, has_allowed, misfits, record_fault, strays};
@@ -13,7 +13,7 @@ use std::alloc::{AllocError, Global};
 use std::collections::BTreeMap;
 use tf_provider_protocol::{Attribute, Schema, is_allowed};
 use tf_state_data::Record;
-use tf_value::{Value, find};
+use tf_value_data::{Value, find};
 
 /// How a prior object doesn't fit the schema of its type.
 #[derive(Debug, Drop)]

@@ -1,7 +1,7 @@
 //! What becomes of the members of a resource, each of which is decided once.
 
 ghost use Rattle.std.specs.Prelude.{◌≡◌, IfOk, map, option_map};
-ghost use Rattle.tf_expand.specs.Words.{block_at, addr_of};
+ghost use Rattle.tf_expand_keys.specs.Words.{block_at, addr_of};
 ghost use Rattle.tf_plan_decision.specs.Outcome.{member_outcome};
 ghost use Rattle.tf_plan_decision.specs.Settling.{settled_from, settled_of};
 ghost use Rattle.tf_plan_order.specs.MemberViews.{member_of};
@@ -9,7 +9,7 @@ ghost use Rattle.tf_plan_order.specs.MemberViews.{member_of};
 use crate::decision::DecisionFault;
 use crate::outcome::member_outcome;
 use std::alloc::{AllocError, Global};
-use tf_expand::ResourceInScope;
+use tf_expand_keys::ResourceInScope;
 use tf_expr_eval::Scope;
 use tf_plan_data::Step;
 use tf_plan_order::InstanceToPlan;

@@ -5,9 +5,9 @@ ghost use Rattle.tf_config_data.specs.Names.{directly_before, meant_at};
 ghost use Rattle.tf_plan_decision.specs.Deciding.{decided_of};
 ghost use Rattle.tf_plan_decision.specs.Rows.{AreDecided, AreOnce, gathered, NeedsAreWanted, row, rows_of, with_row};
 ghost use Rattle.tf_plan_decision.specs.Stage.{deciding};
-ghost use Rattle.tf_expand.specs.Kept.{AreClosed};
-ghost use Rattle.tf_expand.specs.Resolved.{all_stand as all_that_stand, stands_at, where_all};
-ghost use Rattle.tf_expand.specs.Words.{entries_view, environment, has, AreResolved, IsInOrder, names_in, order_in, seen_by, shapes_of, resolved_of, resolved_names_of};
+ghost use Rattle.tf_expand_keys.specs.Kept.{AreClosed};
+ghost use Rattle.tf_expand_keys.specs.Resolved.{all_stand as all_that_stand, stands_at, where_all};
+ghost use Rattle.tf_expand_keys.specs.Words.{entries_view, environment, has, AreResolved, IsInOrder, names_in, order_in, seen_by, shapes_of, resolved_of, resolved_names_of};
 ghost use Rattle.tf_expr_eval.specs.ExprMeaning.{meaning as meaning_of};
 ghost use Rattle.tf_expr_syntax.specs.ExprTree.{tree_of};
 ghost use Rattle.tf_plan_decision.specs.Whole.{nothing_decided};
@@ -19,7 +19,7 @@ use crate::planned_values::{Looked, PlannedValues, decide_block};
 use std::alloc::{AllocError, Global};
 use std::mem;
 use tf_config_names::Declaration;
-use tf_expand::{
+use tf_expand_keys::{
     InstanceKeys, Module, NamesScope, Resolved, ResourceInScope, all_stand, evaluated, is_marked,
     unresolved_names,
 };

@@ -3,7 +3,7 @@ use Rattle.std.proofs.Common.{◌≡◌, ◌<◌, ℕ, ◌+◌, true, List, ◌�
 use Rattle.std.proofs.Math.Seq.{drop-cons}
 use Rattle.tf_expr_syntax.specs.ExprTree as expr
 use Rattle.tf_provider_protocol.specs.Schema.{AttributeView, ascends}
-use Rattle.tf_value.specs.Tree.{Tree, Entries}
+use Rattle.tf_value_data.specs.Tree.{Tree, Entries}
 use Rattle.tf_expr_eval.specs.Environment.{Environment}
 use Rattle.tf_plan_object.specs.Argument.{attribute_value}
 use Rattle.tf_plan_object.specs.Planned.{NamedFaultView, fault_at, attribute_faults, planned_entries, sooner}

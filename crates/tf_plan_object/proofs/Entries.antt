@@ -5,7 +5,7 @@ use Rattle.std.specs.Cmp.Lexicographic.{slice_cmp}
 use Rattle.std.specs.List.{list_all}
 use Rattle.std.specs.Ordering.{ordering_reverse, is_lt}
 use Rattle.tf_provider_protocol.specs.Schema.{AttributeView, is_below, ascends}
-use Rattle.tf_value.specs.Tree.{Tree, Entries, no_entries, entry, put}
+use Rattle.tf_value_data.specs.Tree.{Tree, Entries, no_entries, entry, put}
 use Rattle.tf_plan_object.specs.Planned.{with_value}
 use Rattle.tf_plan_object.specs.Stepped.{put_value}
 use Rattle.tf_plan_object.specs.declared.argument.ArgumentFault.{ArgumentFault}

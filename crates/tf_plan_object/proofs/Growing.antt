@@ -8,15 +8,15 @@ use Rattle.tf_provider_protocol.specs.declared.schema.Kind.TheVariants as kinds
 use Rattle.tf_provider_protocol.specs.declared.schema.Mode.{Mode}
 use Rattle.tf_provider_protocol.specs.declared.schema.Mode.TheVariants as modes
 use Rattle.tf_expr_syntax.specs.ExprTree as expr
-use Rattle.tf_value.specs.Laws.{ListsRefine, RefinementIsReflexive}
-use Rattle.tf_value.specs.Refinement.{Refines, RefinesEntries}
-use Rattle.tf_value.specs.Sets.{with_lists}
-use Rattle.tf_value.specs.Tree.{Tree, null, boolean, whole, text, unknown, Entries}
+use Rattle.tf_value_data.specs.Laws.{ListsRefine, RefinementIsReflexive}
+use Rattle.tf_value_data.specs.Refinement.{Refines, RefinesEntries}
+use Rattle.tf_value_data.specs.Sets.{with_lists}
+use Rattle.tf_value_data.specs.Tree.{Tree, null, boolean, whole, text, unknown, Entries}
 use Rattle.tf_expr_eval.specs.Environment.{Environment, RefinesTo}
 use Rattle.tf_expr_eval.specs.ExprMeaning.{meaning}
 use Rattle.tf_expr_eval.specs.Growth.{ExprKnowledgeGrows}
-use Rattle.tf_expand.specs.Instance.{instance_environment}
-use Rattle.tf_expand.specs.StandingLaws.{InstanceEnvironmentsGrow}
+use Rattle.tf_expand_keys.specs.Instance.{instance_environment}
+use Rattle.tf_expand_keys.specs.StandingLaws.{InstanceEnvironmentsGrow}
 use Rattle.tf_plan_object.specs.Argument.{attribute_value, converted, evaluated, given_value, or_bad_argument, result_then, set_value, unset_value}
 use Rattle.tf_plan_object.specs.Laws.{ConversionGrows, InstancesGrow}
 use Rattle.tf_plan_object.specs.Planned.{fault_at, attribute_faults, with_value, planned_entries, planned_object}

@@ -5,7 +5,7 @@ use Rattle.std.specs.Str.{bytes_eq}
 use Rattle.std.proofs.lemmas.Slice.Eq.{bytes_eq-Decides}
 use Rattle.tf_provider_protocol.specs.Schema.{SchemaView}
 use Rattle.tf_provider_protocol.specs.Verdict.{names_of, same_names}
-use Rattle.tf_value.specs.Tree.{Tree, map, Entries, no_entries, entry, get, keys_of, part_at}
+use Rattle.tf_value_data.specs.Tree.{Tree, map, Entries, no_entries, entry, get, keys_of, part_at}
 use Rattle.tf_plan_object.specs.Kept.{is_kept, kept_entries, kept_value}
 use Rattle.tf_plan_object.specs.KeptLaws.{UpdatesHaveArguments, UpdatesHaveAttributes, UpdatesKeep}
 

@@ -2,9 +2,9 @@
 use Rattle.std.proofs.Common.{ℕ, Bool, true, false, cond, List, Option, Some, None, subst}
 use Rattle.std.specs.Option.{unwrap_or}
 use Rattle.tf_provider_protocol.specs.Schema.{SchemaView}
-use Rattle.tf_value.specs.Refinement.{Refines, RefinesEntries}
-use Rattle.tf_value.specs.Tree.{Tree, null, boolean, whole, text, list, map, set, unknown, Entries, no_entries, entry, part_at}
-use Rattle.tf_value.proofs.Order.{Refines-refl}
+use Rattle.tf_value_data.specs.Refinement.{Refines, RefinesEntries}
+use Rattle.tf_value_data.specs.Tree.{Tree, null, boolean, whole, text, list, map, set, unknown, Entries, no_entries, entry, part_at}
+use Rattle.tf_value_data.proofs.Order.{Refines-refl}
 use Rattle.tf_plan_object.specs.Kept.{is_kept, kept_entries, kept_value}
 use Rattle.tf_plan_object.specs.KeptLaws.{UpdatesGrow}
 

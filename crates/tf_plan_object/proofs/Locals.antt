@@ -11,14 +11,14 @@ use Rattle.tf_provider_protocol.specs.Schema.{AttributeView, SchemaView}
 use Rattle.tf_expr_syntax.specs.ExprNames.{named_by, named_below}
 use Rattle.tf_expr_syntax.specs.ExprTree as expr
 use Rattle.tf_expr_syntax.specs.TemplateNames.{Pair}
-use Rattle.tf_value.specs.Tree.{map}
+use Rattle.tf_value_data.specs.Tree.{map}
 use Rattle.tf_expr_eval.specs.Constants.{ConstantView}
 use Rattle.tf_expr_eval.specs.Environment.{Environment}
 use Rattle.tf_expr_eval.specs.ExprMeaning.{meaning}
 use Rattle.tf_expr_eval.specs.Locality.{AgreeOn, ExpressionsAreLocal}
 use Rattle.tf_expr_eval.specs.Meaning.{and_then}
 use Rattle.tf_expr_eval.proofs.Locality.{both_halves}
-use Rattle.tf_expand.specs.Instance.{bound, each_key, each_value, instance_constants, value_under}
+use Rattle.tf_expand_keys.specs.Instance.{bound, each_key, each_value, instance_constants, value_under}
 use Rattle.tf_plan_object.specs.Argument.{attribute_value, evaluated, given_value, result_then}
 use Rattle.tf_plan_object.specs.Instance.{object_in, or_argument_fault}
 use Rattle.tf_plan_object.specs.Laws.{InstancesAreLocal}

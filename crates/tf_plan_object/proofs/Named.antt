@@ -7,9 +7,9 @@ use Rattle.tf_expr_syntax.specs.declared.fault.EvalFault.{EvalFault}
 use Rattle.tf_provider_protocol.specs.Schema.{AttributeView, SchemaView, is_below}
 use Rattle.tf_provider_protocol.specs.Verdict.{has_attributes, same_names}
 use Rattle.tf_expr_syntax.specs.ExprTree as expr
-use Rattle.tf_value.specs.Tree.{Tree, Entries, map, keys_of}
+use Rattle.tf_value_data.specs.Tree.{Tree, Entries, map, keys_of}
 use Rattle.tf_expr_eval.specs.Environment.{Environment}
-use Rattle.tf_expand.specs.Instance.{instance_environment}
+use Rattle.tf_expand_keys.specs.Instance.{instance_environment}
 use Rattle.tf_plan_object.specs.Argument.{attribute_value}
 use Rattle.tf_plan_object.specs.Instance.{object_in, or_argument_fault}
 use Rattle.tf_plan_object.specs.Laws.{InstancesHaveAttributes}

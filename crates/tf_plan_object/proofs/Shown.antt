@@ -3,9 +3,9 @@ use Rattle.std.proofs.Common.{◌≡◌, List, [], ◌∷◌, map as each, Strin
 use Rattle.std.specs.BTreeMap.{insert_entry}
 use Rattle.std.specs.List.Sorted.{IsStrictlySortedBy}
 use Rattle.std.specs.Map.{keys_of}
-use Rattle.tf_value.specs.Tree.{Tree, Entries, entries_view, tree_of}
-use Rattle.tf_value.specs.declared.value.Value.{Value}
-use Rattle.tf_value.proofs.Views.{Entry, ShownBefore, shown, shown_more, shown_all}
+use Rattle.tf_value_data.specs.Tree.{Tree, Entries, entries_view, tree_of}
+use Rattle.tf_value_data.specs.declared.value.Value.{Value}
+use Rattle.tf_value_data.proofs.Views.{Entry, ShownBefore, shown, shown_more, shown_all}
 
 -- each value with its key
 abbrev pub keyed : List Entry → List (String Global × Entry)

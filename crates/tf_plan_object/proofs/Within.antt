@@ -5,12 +5,12 @@ use Rattle.std.specs.Cmp.Lexicographic.{slice_cmp}
 use Rattle.std.specs.Ordering.{nat_cmp, match_ordering}
 use Rattle.std.specs.declared.cmp.Ordering.{Ordering}
 use Rattle.std.specs.declared.cmp.Ordering.TheVariants.{Less, Equal, Greater}
-use Rattle.tf_value.proofs.Conjunction.{and-first, and-second, and-both}
-use Rattle.tf_value.proofs.WithLists.{lists-planned}
-use Rattle.tf_value.specs.Sets.{with_lists}
-use Rattle.tf_value.specs.Measure.{IsWithinLimits, is_within}
-use Rattle.tf_value.specs.Stored.{may_be_planned}
-use Rattle.tf_value.specs.Tree.{Tree, text, Entries, no_entries, entry, put}
+use Rattle.tf_value_data.proofs.Conjunction.{and-first, and-second, and-both}
+use Rattle.tf_value_data.proofs.WithLists.{lists-planned}
+use Rattle.tf_value_data.specs.Sets.{with_lists}
+use Rattle.tf_value_data.specs.Measure.{IsWithinLimits, is_within}
+use Rattle.tf_value_data.specs.Stored.{may_be_planned}
+use Rattle.tf_value_data.specs.Tree.{Tree, text, Entries, no_entries, entry, put}
 use Rattle.tf_plan_object.specs.Bounded.{each_may_be_planned}
 
 -- the test of what is within the limits answers so

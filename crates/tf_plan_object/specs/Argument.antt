@@ -1,8 +1,8 @@
 -- What an argument gives the attribute that it names.
 use Rattle.std.specs.Prelude.{if◌then◌else◌, codes, Option, Some, None, Result, Ok, Err}
 use Rattle.std.specs.Fmt.{signed_decimal}
-use Rattle.tf_value.specs.Sets.{with_lists}
-use Rattle.tf_value.specs.Tree.{Tree, null, boolean, whole, text, unknown}
+use Rattle.tf_value_data.specs.Sets.{with_lists}
+use Rattle.tf_value_data.specs.Tree.{Tree, null, boolean, whole, text, unknown}
 use Rattle.tf_provider_protocol.specs.Schema.{AttributeView}
 use Rattle.tf_provider_protocol.specs.declared.schema.Kind.{Kind}
 use Rattle.tf_provider_protocol.specs.declared.schema.Kind.TheVariants as kinds

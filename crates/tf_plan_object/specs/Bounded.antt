@@ -1,7 +1,7 @@
 -- Which objects may be planned.
 use Rattle.std.specs.Prelude.{Bool, true, false, ◌&&◌}
-use Rattle.tf_value.specs.Stored.{may_be_planned}
-use Rattle.tf_value.specs.Tree.{Tree, map, Entries, no_entries, entry}
+use Rattle.tf_value_data.specs.Stored.{may_be_planned}
+use Rattle.tf_value_data.specs.Tree.{Tree, map, Entries, no_entries, entry}
 
 -- each value of a map's entries may be planned: it is within the limits, and there is no set in it
 abbrev pub each_may_be_planned : Entries → Bool

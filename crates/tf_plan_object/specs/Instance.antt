@@ -5,10 +5,10 @@ use Rattle.tf_config_data.specs.Config.{BlockView}
 use Rattle.tf_expr_syntax.specs.declared.fault.EvalFault.{EvalFault}
 use Rattle.tf_provider_protocol.specs.Schema.{SchemaView}
 use Rattle.tf_expr_syntax.specs.ExprTree as expr
-use Rattle.tf_value.specs.Tree.{Tree, tree_of}
-use Rattle.tf_value.specs.declared.value.Value.{Value}
+use Rattle.tf_value_data.specs.Tree.{Tree, tree_of}
+use Rattle.tf_value_data.specs.declared.value.Value.{Value}
 use Rattle.tf_expr_eval.specs.Environment.{Environment}
-use Rattle.tf_expand.specs.Instance.{instance_environment}
+use Rattle.tf_expand_keys.specs.Instance.{instance_environment}
 use Rattle.tf_plan_object.specs.Planned.{NamedFaultView, planned_object}
 use Rattle.tf_plan_object.specs.declared.instance.InstanceFault.{InstanceFault}
 use Rattle.tf_plan_object.specs.declared.instance.InstanceFault.TheVariants.{ForEach, Argument}

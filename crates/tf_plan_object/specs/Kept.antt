@@ -6,7 +6,7 @@ use Rattle.std.specs.Str.{bytes_eq}
 use Rattle.tf_provider_protocol.specs.Schema.{SchemaView, attribute_named}
 use Rattle.tf_provider_protocol.specs.declared.schema.Mode.{Mode}
 use Rattle.tf_provider_protocol.specs.declared.schema.Mode.TheVariants.{Required, Optional, Computed}
-use Rattle.tf_value.specs.Tree.{Tree, Entries, no_entries, entry, map, part_at}
+use Rattle.tf_value_data.specs.Tree.{Tree, Entries, no_entries, entry, map, part_at}
 
 abbrev pub is_computed : Mode → Bool
 is_computed Computed = true

@@ -2,8 +2,8 @@
 use Rattle.std.specs.Prelude.{◌≡◌, ℕ, true, false, List, option_map}
 use Rattle.tf_provider_protocol.specs.Schema.{SchemaView}
 use Rattle.tf_provider_protocol.specs.Verdict.{has_attributes}
-use Rattle.tf_value.specs.Refinement.{Refines}
-use Rattle.tf_value.specs.Tree.{Tree, part_at}
+use Rattle.tf_value_data.specs.Refinement.{Refines}
+use Rattle.tf_value_data.specs.Tree.{Tree, part_at}
 use Rattle.tf_plan_object.specs.Kept.{is_kept, kept_object, kept_value}
 
 -- An update has at each name what is kept there of the planned value and the prior one. So it has each configured value

@@ -6,8 +6,8 @@ use Rattle.tf_config_data.specs.Names.{block_refers}
 use Rattle.tf_provider_protocol.specs.Schema.{SchemaView}
 use Rattle.tf_provider_protocol.specs.Verdict.{has_attributes}
 use Rattle.tf_provider_protocol.specs.declared.schema.Kind.{Kind}
-use Rattle.tf_value.specs.Tree.{Tree}
-use Rattle.tf_value.specs.Refinement.{Refines}
+use Rattle.tf_value_data.specs.Tree.{Tree}
+use Rattle.tf_value_data.specs.Refinement.{Refines}
 use Rattle.tf_expr_eval.specs.Environment.{Environment, RefinesTo}
 use Rattle.tf_expr_eval.specs.Locality.{AgreeOn}
 use Rattle.tf_plan_object.specs.Argument.{converted}

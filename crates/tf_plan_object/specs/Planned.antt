@@ -2,7 +2,7 @@
 use Rattle.std.specs.Prelude.{ℕ, if◌then◌else◌, List, [], ◌∷◌, ◌++◌, fold, is_some, Option, Some, None, Result, Ok, Err}
 use Rattle.tf_expr_syntax.specs.ExprTree as expr
 use Rattle.tf_expr_eval.specs.Environment.{Environment}
-use Rattle.tf_value.specs.Tree.{Tree, Entries, no_entries, entry, map}
+use Rattle.tf_value_data.specs.Tree.{Tree, Entries, no_entries, entry, map}
 use Rattle.tf_provider_protocol.specs.Schema.{AttributeView, SchemaView, attribute_named, is_below}
 use Rattle.tf_plan_object.specs.Argument.{attribute_value}
 use Rattle.tf_plan_object.specs.declared.argument.ArgumentFault.{ArgumentFault}

@@ -1,6 +1,6 @@
 -- One attribute after another.
 use Rattle.std.specs.Prelude.{List, ℕ, Result, Ok, Err}
-use Rattle.tf_value.specs.Tree.{Tree, Entries, put}
+use Rattle.tf_value_data.specs.Tree.{Tree, Entries, put}
 use Rattle.tf_plan_object.specs.declared.argument.ArgumentFault.{ArgumentFault}
 
 -- the entries with an attribute's value, where it has one

@@ -2,7 +2,7 @@
 
 ghost use Rattle.std.specs.Fmt.{signed_decimal};
 ghost use Rattle.std.specs.Prelude.{◌≡◌, true, IfOk, option_map, string_bytes};
-ghost use Rattle.tf_expand.specs.Words.{is_within, may_be_planned, text, tree_of};
+ghost use Rattle.tf_expand_keys.specs.Words.{is_within, may_be_planned, text, tree_of};
 ghost use Rattle.tf_expr_syntax.specs.ExprTree.{tree_of as expr_of};
 ghost use Rattle.tf_plan_object.specs.Argument.{argument_value, unset_value, set_value, given_value, attribute_value, converted, or_bad_argument};
 ghost use Rattle.tf_provider_protocol.specs.declared.schema.Kind.TheVariants as kinds;
@@ -14,7 +14,7 @@ use std::alloc::{AllocError, AllocFailed, Global};
 use tf_expr_eval::{EvalFault, Scope, eval_expr, values_are_within_limits};
 use tf_expr_syntax::Expr;
 use tf_provider_protocol::{Attribute, Kind, Mode};
-use tf_value::{Value, with_lists};
+use tf_value_data::{Value, with_lists};
 
 /// What is wrong with an argument, or with an attribute that no argument sets.
 #[derive(Clone, Copy, Debug, PartialEq, Eq)]

@@ -1,7 +1,7 @@
 //! The object that is planned for one instance of a resource.
 
 ghost use Rattle.std.specs.Prelude.{◌≡◌, true, IfOk};
-ghost use Rattle.tf_expand.specs.Words.{block_at, instance_key_of, ResourceAddrView, tree_of};
+ghost use Rattle.tf_expand_keys.specs.Words.{block_at, instance_key_of, ResourceAddrView, tree_of};
 ghost use Rattle.tf_plan_object.specs.Bounded.{has_planned_attributes};
 ghost use Rattle.tf_plan_object.specs.Instance.{instance_object, instance_of};
 
@@ -10,10 +10,10 @@ use crate::object::plan_object;
 use std::alloc::{AllocError, Global};
 use tf_config_address::InstanceKey;
 use tf_config_data::Block;
-use tf_expand::{InstanceScope, instance_constants};
+use tf_expand_keys::{InstanceScope, instance_constants};
 use tf_expr_eval::{EvalFault, Scope};
 use tf_provider_protocol::Schema;
-use tf_value::Value;
+use tf_value_data::Value;
 
 /// What is wrong with an instance.
 #[derive(Debug, Drop)]

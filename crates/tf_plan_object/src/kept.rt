@@ -1,13 +1,13 @@
 //! The object of an instance that keeps what it is not asked to change.
 
 ghost use Rattle.std.specs.Prelude.{◌≡◌, IfOk, map, string_bytes};
-ghost use Rattle.tf_value.specs.Tree.{tree_of, entries_view};
+ghost use Rattle.tf_value_data.specs.Tree.{tree_of, entries_view};
 ghost use Rattle.tf_plan_object.specs.Kept.{is_ignored, is_kept, kept_entries, kept_object, kept_value, names_computed};
 
 use std::alloc::{AllocError, Global};
 use std::collections::BTreeMap;
 use tf_provider_protocol::{Mode, Schema};
-use tf_value::Value;
+use tf_value_data::Value;
 
 /// The planned object with the prior value of each attribute that is kept: those that the provider sets, and those whose
 /// changes are ignored. It is what an update asks for.

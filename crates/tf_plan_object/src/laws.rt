@@ -3,9 +3,9 @@
 ghost use Rattle.tf_plan_object.specs.KeptLaws.{UpdatesGrow, UpdatesHaveArguments, UpdatesHaveAttributes, UpdatesKeep};
 ghost use Rattle.tf_plan_object.specs.Laws.{ConversionGrows, InstancesAreLocal, InstancesGrow, InstancesHaveAttributes};
 
-use tf_expand::standing_laws::instances_stay;
+use tf_expand_keys::standing_laws::instances_stay;
 use tf_expr_eval::{expr_knowledge_grows, meaning_is_local};
-use tf_value::{lists_stand_for_sets, refinement_is_an_order};
+use tf_value_data::{lists_stand_for_sets, refinement_is_an_order};
 
 /// What a block refers to decides the object, or the fault, of each of its instances.
 pub fn objects_are_local()

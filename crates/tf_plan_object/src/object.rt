@@ -1,7 +1,7 @@
 //! The object that is planned of arguments, or the first thing that is wrong with them.
 
 ghost use Rattle.std.specs.Prelude.{◌≡◌, true, Result, IfOk, fold, map, option_map};
-ghost use Rattle.tf_expand.specs.Words.{entries_view, get, may_be_planned, Tree, tree_of};
+ghost use Rattle.tf_expand_keys.specs.Words.{entries_view, get, may_be_planned, Tree, tree_of};
 ghost use Rattle.tf_expr_syntax.specs.ExprTree.{tree_of as expr_of, entries_view as arguments_view};
 ghost use Rattle.tf_provider_protocol.specs.Schema.{ascends, attribute_of};
 ghost use Rattle.tf_plan_object.specs.declared.argument.ArgumentFault.{ArgumentFault};
@@ -17,7 +17,7 @@ use std::collections::BTreeMap;
 use tf_expr_eval::Scope;
 use tf_expr_syntax::{Expr, find};
 use tf_provider_protocol::{Attribute, Schema};
-use tf_value::Value;
+use tf_value_data::Value;
 
 /// Plans the object of arguments by a type's schema, where references stand for what the scope says: with unknown values
 /// where the provider decides. Or the name that is first in byte order among those of attributes with a fault, and of

@@ -2,8 +2,8 @@
 use Rattle.std.specs.Prelude.{ℕ, Bool, true, false, if◌then◌else◌, List, [], ◌∷◌, ◌++◌, codes, decimal, count_by, Option, Some, None}
 use Rattle.std.specs.List.{flat_map}
 use Rattle.tf_plan_data.specs.Action.{ActionView, StepView, create, update, replacement, replaced, destroyed, deposed_destroyed}
-use Rattle.tf_value.specs.Tree as tree
-use Rattle.tf_value.specs.Tree.{part_at}
+use Rattle.tf_value_data.specs.Tree as tree
+use Rattle.tf_value_data.specs.Tree.{part_at}
 use Rattle.tf_plan_data.specs.Address.{address_text}
 use Rattle.tf_plan_text.specs.Shown.{shown}
 

@@ -10,7 +10,7 @@ ghost use Rattle.tf_plan_text.specs.Shown.{shown, shown_items, shown_entries, sh
 use serde_json::Value as Json;
 use std::alloc::{AllocError, Global};
 use std::collections::{BTreeMap, BTreeSet};
-use tf_value::Value;
+use tf_value_data::Value;
 
 /// Writes a value's compact JSON text at the end of a text, with `(known after apply)` for each part that
 /// isn't known yet.

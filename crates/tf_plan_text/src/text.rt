@@ -3,14 +3,14 @@
 ghost use Rattle.std.specs.Prelude.{◌≡◌, ◌++◌, false, map, count_by, OnOk, IfOk, slice_index_or, string_bytes};
 ghost use Rattle.std.specs.List.{flat_map};
 ghost use Rattle.tf_plan_data.specs.Action.{action_of, names_of, step_of};
-ghost use Rattle.tf_value.specs.Tree.{tree_of, entries_view};
+ghost use Rattle.tf_value_data.specs.Tree.{tree_of, entries_view};
 ghost use Rattle.tf_plan_text.specs.Text.{action_lines, adds, attribute_line, attribute_lines, changed_line, changes, count_of, destroys, object_lines, plan_text, replace_symbol, step_lines, summary_line, value_line};
 
 use crate::shown::show_value;
 use std::alloc::{AllocError, Global};
 use std::collections::BTreeMap;
 use tf_plan_data::{Action, Step, address_text};
-use tf_value::Value;
+use tf_value_data::Value;
 
 /// What the actions of a plan do, for the user: a line for each instance that is changed and for each deposed object that is
 /// destroyed, with a symbol and the address, and below it the attributes of a new object that aren't null, or those that are

@@ -5,7 +5,7 @@ ghost use Rattle.std.specs.Prelude.{◌≡◌, ℕ, false, true, IfSome, MatchRe
 ghost use Rattle.tf_provider.specs.Call.{Call, IsServed, is_excused};
 ghost use Rattle.tf_provider_protocol.specs.Meaning.{asked, answered};
 ghost use Rattle.tf_provider_protocol.specs.Verdict.{verdict_on};
-ghost use Rattle.tf_value.specs.contracts.value.Value as value;
+ghost use Rattle.tf_value_data.specs.contracts.value.Value as value;
 
 use std::marker::Model;
 use tf_claim::{Finished, Permit, waive};

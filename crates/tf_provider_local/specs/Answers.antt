@@ -13,7 +13,7 @@ use Rattle.tf_provider_local.specs.declared.wanted.LocalFault.{LocalFault}
 use Rattle.tf_provider_local.specs.declared.wanted.LocalFault.TheVariants.{UnknownType, Malformed, BadPermission}
 use Rattle.tf_provider_protocol.specs.Meaning.{Asked, Answer, Meaning, object, gone, failed}
 use Rattle.tf_provider_protocol.specs.Schema.{SchemaView}
-use Rattle.tf_value.specs.Tree.{Tree, text, map, put}
+use Rattle.tf_value_data.specs.Tree.{Tree, text, map, put}
 
 -- a map with a text at a key
 abbrev pub with_text : List ℕ → List ℕ → Tree → Tree

@@ -9,7 +9,7 @@ use Rattle.tf_provider_local.specs.declared.wanted.Wanted.{Wanted}
 use Rattle.tf_provider_local.specs.declared.wanted.Wanted.TheVariants as found
 use Rattle.tf_provider_protocol.specs.Meaning.{Asked}
 use Rattle.tf_provider_protocol.specs.Verdict.{is_destroy}
-use Rattle.tf_value.specs.Tree.{Tree, null, text, part_at, tree_of}
+use Rattle.tf_value_data.specs.Tree.{Tree, null, text, part_at, tree_of}
 
 -- a file: its name, what it holds, the bits of its permissions, and the object that asks for it
 pub record FileView : Type 0 where

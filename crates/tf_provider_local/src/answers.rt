@@ -10,7 +10,7 @@ ghost use Rattle.sha2.specs.Sha256.{sha256};
 ghost use Rattle.tf_provider_local.specs.Answers.{answer_to, described, message_of, with_text};
 ghost use Rattle.tf_provider_local.specs.Wanted.{wanted_view};
 ghost use Rattle.tf_provider_protocol.specs.Meaning.{answered, failed};
-ghost use Rattle.tf_value.specs.Tree.{tree_of};
+ghost use Rattle.tf_value_data.specs.Tree.{tree_of};
 
 use crate::wanted::{LocalFault, Wanted};
 use base64::engine::general_purpose::STANDARD;
@@ -19,7 +19,7 @@ use sha1::Sha1;
 use sha2::{Digest as _, Sha256};
 use std::alloc::{AllocError, Global};
 use tf_provider_protocol::Reply;
-use tf_value::{Value, copy};
+use tf_value_data::{Value, copy};
 
 /// The answer where what is wanted is so.
 pub fn answer(alloc: Global, wanted: &Wanted<'_>) -> Result<Reply, AllocError>

@@ -3,11 +3,11 @@
 ghost use Rattle.std.specs.Prelude.{◌≡◌, option_map, MatchResult};
 ghost use Rattle.tf_provider_local.specs.Wanted.{content_in, file_in, gone_in, mode_in, text_in, wanted, wanted_view};
 ghost use Rattle.tf_provider_protocol.specs.Meaning.{asked};
-ghost use Rattle.tf_value.specs.Tree.{tree_of, part_at};
+ghost use Rattle.tf_value_data.specs.Tree.{tree_of, part_at};
 
 use crate::mode::mode_of;
 use tf_provider_protocol::{Op, Request};
-use tf_value::Value;
+use tf_value_data::Value;
 
 /// The permissions where none are named: everyone may do everything, less what the process takes away.
 const ALL: u32 = 0o777;

@@ -6,11 +6,11 @@ use Rattle.std.specs.Int.{w64}
 use Rattle.serde_json.specs.Data as json
 use Rattle.serde_json.specs.Find.{of_integer}
 use Rattle.tf_value_json.specs.Json.{tree_from, items_from, entries_from}
-use Rattle.tf_value.specs.Measure.{depth, depth_of_items, depth_of_entries}
-use Rattle.tf_value.specs.Parts.{items_have_only, entries_have_only}
-use Rattle.tf_value.specs.Sets.{has_no_set}
-use Rattle.tf_value.specs.Tree as tree
-use Rattle.tf_value.proofs.Conjunction.{and-first, and-second}
+use Rattle.tf_value_data.specs.Measure.{depth, depth_of_items, depth_of_entries}
+use Rattle.tf_value_data.specs.Parts.{items_have_only, entries_have_only}
+use Rattle.tf_value_data.specs.Sets.{has_no_set}
+use Rattle.tf_value_data.specs.Tree as tree
+use Rattle.tf_value_data.proofs.Conjunction.{and-first, and-second}
 use Rattle.tf_value_json.proofs.Forms.{tree_from-form}
 use Rattle.tf_provider_log.specs.Form.{value_form, items_form, members_form}
 use Rattle.tf_provider_log.specs.Text.{IsSimple, AreSimple, AreSimpleMembers}

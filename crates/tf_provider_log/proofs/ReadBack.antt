@@ -8,10 +8,10 @@ use Rattle.tf_provider_protocol.specs.Meaning.{Asked, Answer, object, gone, fail
 use Rattle.tf_provider_protocol.specs.declared.request.Op.{Op}
 use Rattle.tf_provider_protocol.specs.declared.request.Op.TheVariants as op
 use Rattle.tf_value_json.specs.Json.{tree_from}
-use Rattle.tf_value.specs.Measure.{depth}
-use Rattle.tf_value.specs.Sets.{has_no_set}
-use Rattle.tf_value.specs.Tree.{Tree, IsHeld}
-use Rattle.tf_value.proofs.Conjunction.{and-first, and-second}
+use Rattle.tf_value_data.specs.Measure.{depth}
+use Rattle.tf_value_data.specs.Sets.{has_no_set}
+use Rattle.tf_value_data.specs.Tree.{Tree, IsHeld}
+use Rattle.tf_value_data.proofs.Conjunction.{and-first, and-second}
 use Rattle.tf_provider_log.specs.LogEntry.{LogEntryView, begun, replied, HeaderView}
 use Rattle.tf_provider_log.specs.Fit.{fits, option_fits, request_fits, answer_fits}
 use Rattle.tf_provider_log.specs.Form.{value_form, text_form, option_form, op_word, request_form, reply_form, entry_form, header_form}

@@ -14,8 +14,8 @@ use Rattle.tf_provider_log.specs.True.{AreTrue, IsTrueAmong, IsTrueOf}
 use Rattle.tf_provider_protocol.specs.Meaning.{Asked, Answer, Meaning}
 use Rattle.tf_provider_protocol.specs.declared.request.Op.{Op}
 use Rattle.tf_provider_protocol.specs.declared.request.Op.TheVariants.{Create, Update, Destroy}
-use Rattle.tf_value.specs.Equality.{same_Decides}
-use Rattle.tf_value.specs.Tree.{same}
+use Rattle.tf_value_data.specs.Equality.{same_Decides}
+use Rattle.tf_value_data.specs.Tree.{same}
 
 is_same_op_Decides : (a b : Op) → Decides (is_same_op a b) (a ≡ b)
 is_same_op_Decides Create Create = (λ e. refl, λ e. refl)

@@ -4,10 +4,10 @@ use Rattle.std.proofs.lemmas.List.{take_all}
 use Rattle.serde_json.specs.Data as json
 use Rattle.serde_json.specs.View.{view, items_view as json_items, items_of as json_items_of}
 use Rattle.serde_json.specs.declared.value.Value.{Value as Json}
-use Rattle.tf_value.specs.Tree.{tree_of, items_view, entries_view}
-use Rattle.tf_value.specs.declared.value.Value.{Value}
+use Rattle.tf_value_data.specs.Tree.{tree_of, items_view, entries_view}
+use Rattle.tf_value_data.specs.declared.value.Value.{Value}
 use Rattle.tf_value_json.proofs.JsonForms.{listed}
-use Rattle.tf_value.proofs.Views.{Entry}
+use Rattle.tf_value_data.proofs.Views.{Entry}
 use Rattle.tf_provider_log.specs.Form.{value_form, items_form, members_form}
 
 written_items-is : (vs : List Value) → json_items_of (each (λ v. value_form (tree_of v)) vs) ≡ items_form (items_view vs)

@@ -1,9 +1,9 @@
 -- Which requests and answers have a form.
 use Rattle.std.specs.Prelude.{◌≡◌, Option, Some, None, Bool, true, false, ◌&&◌, nat_le}
 use Rattle.tf_provider_protocol.specs.Meaning.{Asked, Answer, object, gone, failed}
-use Rattle.tf_value.specs.Measure.{depth}
-use Rattle.tf_value.specs.Sets.{has_no_set}
-use Rattle.tf_value.specs.Tree.{Tree}
+use Rattle.tf_value_data.specs.Measure.{depth}
+use Rattle.tf_value_data.specs.Sets.{has_no_set}
+use Rattle.tf_value_data.specs.Tree.{Tree}
 use Rattle.tf_provider_log.specs.declared.fault.Unwritten.{Unwritten}
 use Rattle.tf_provider_log.specs.declared.fault.Unwritten.TheVariants.{Unfit, OutOfMemory}
 

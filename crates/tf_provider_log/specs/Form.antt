@@ -5,7 +5,7 @@ use Rattle.serde_json.specs.Find.{of_integer}
 use Rattle.tf_provider_protocol.specs.Meaning.{Asked, Answer, object, gone, failed}
 use Rattle.tf_provider_protocol.specs.declared.request.Op.{Op}
 use Rattle.tf_provider_protocol.specs.declared.request.Op.TheVariants as op
-use Rattle.tf_value.specs.Tree as tree
+use Rattle.tf_value_data.specs.Tree as tree
 use Rattle.tf_provider_log.specs.LogEntry.{LogEntryView, begun, replied, HeaderView}
 
 -- the number that stands where a part of a value isn't known: no value holds it, as it is above the whole numbers of 64 bits

@@ -7,7 +7,7 @@ use Rattle.tf_provider_protocol.specs.Meaning.{Asked, Answer, object, gone, fail
 use Rattle.tf_provider_protocol.specs.declared.request.Op.{Op}
 use Rattle.tf_provider_protocol.specs.declared.request.Op.TheVariants as op
 use Rattle.tf_value_json.specs.Json.{tree_from}
-use Rattle.tf_value.specs.Tree.{Tree}
+use Rattle.tf_value_data.specs.Tree.{Tree}
 use Rattle.tf_provider_log.specs.LogEntry.{LogEntryView, begun, replied, HeaderView}
 
 -- a string is a text

@@ -4,7 +4,7 @@ use Rattle.std.specs.Str.{bytes_eq}
 use Rattle.tf_provider_protocol.specs.Meaning.{Asked}
 use Rattle.tf_provider_protocol.specs.declared.request.Op.{Op}
 use Rattle.tf_provider_protocol.specs.declared.request.Op.TheVariants.{Create, Update, Destroy}
-use Rattle.tf_value.specs.Tree.{same}
+use Rattle.tf_value_data.specs.Tree.{same}
 
 abbrev pub is_same_op : Op → Op → Bool
 is_same_op Create Create = true

@@ -1,7 +1,7 @@
 -- JSON trees as lines, for private clauses.
 use Rattle.std.specs.Prelude.{◌≡◌, ◌++◌, ◌<◌, ◌^◌, ℕ, suc, pos, negsuc, List, ◌∷◌, [], Option, Some, None, All, ⊤}
 use Rattle.tf_provider_protocol.specs.Meaning.{Asked, Answer, object, gone, failed}
-use Rattle.tf_value.specs.Tree.{Tree, IsHeld}
+use Rattle.tf_value_data.specs.Tree.{Tree, IsHeld}
 use Rattle.serde_json.specs.Data as json
 use Rattle.tf_provider_log.specs.Line.{IsInLine, tree_in}
 

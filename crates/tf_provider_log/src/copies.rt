@@ -2,11 +2,11 @@
 
 ghost use Rattle.std.specs.Prelude.{◌≡◌, IfOk, option_map, string_bytes};
 ghost use Rattle.tf_provider_protocol.specs.Meaning.{asked, answered};
-ghost use Rattle.tf_value.specs.Tree.{tree_of};
+ghost use Rattle.tf_value_data.specs.Tree.{tree_of};
 
 use std::alloc::{AllocError, Global};
 use tf_provider_protocol::{Reply, Request};
-use tf_value::{Value, copy};
+use tf_value_data::{Value, copy};
 
 /// A copy of a request.
 pub(crate) fn copy_request(alloc: Global, request: &Request) -> Result<Request, AllocError>

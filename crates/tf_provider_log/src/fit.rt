@@ -3,10 +3,10 @@
 ghost use Rattle.std.specs.Prelude.{◌≡◌, ◌&&◌, option_map};
 ghost use Rattle.tf_provider_log.specs.Fit.{fits, option_fits, request_fits, answer_fits};
 ghost use Rattle.tf_provider_protocol.specs.Meaning.{asked, answered};
-ghost use Rattle.tf_value.specs.Tree.{tree_of};
+ghost use Rattle.tf_value_data.specs.Tree.{tree_of};
 
 use tf_provider_protocol::{Reply, Request};
-use tf_value::{Value, depth, has_no_set};
+use tf_value_data::{Value, depth, has_no_set};
 
 /// How deep a value may be that stands in a line.
 const MAX_DEPTH: u32 = 100;

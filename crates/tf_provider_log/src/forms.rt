@@ -7,14 +7,14 @@ ghost use Rattle.tf_provider_log.specs.LogEntry.{begun, replied};
 ghost use Rattle.tf_provider_log.specs.Form.{value_form, items_form, members_form, text_form, option_form, op_word, request_form, reply_form, entry_form, header_form};
 ghost use Rattle.tf_provider_log.specs.Text.{IsOptionHeld, IsRequestHeld, IsAnswerHeld};
 ghost use Rattle.tf_provider_protocol.specs.Meaning.{asked, answered};
-ghost use Rattle.tf_value.specs.Tree.{IsHeld, AreHeld, AreHeldEntries, tree_of, items_view, entries_view};
+ghost use Rattle.tf_value_data.specs.Tree.{IsHeld, AreHeld, AreHeldEntries, tree_of, items_view, entries_view};
 
 use crate::entry::Header;
 use serde_json::{Map, Number, Value as Json, json};
 use std::alloc::{AllocError, Global};
 use std::collections::BTreeMap;
 use tf_provider_protocol::{Op, Reply, Request};
-use tf_value::Value;
+use tf_value_data::Value;
 
 #[cycle(write)]
 fn value_form(alloc: Global, value: &Value) -> Result<Json, AllocError>

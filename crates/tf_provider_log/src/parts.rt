@@ -5,13 +5,13 @@ ghost use Rattle.serde_json.specs.Data as json;
 ghost use Rattle.serde_json.specs.View.{view, items_view as json_items};
 ghost use Rattle.tf_provider_log.specs.From.{text_from, option_text_from, option_from, op_of_word, op_from, request_from, failure_of_parts, reply_of_members, reply_from};
 ghost use Rattle.tf_provider_protocol.specs.Meaning.{asked, answered};
-ghost use Rattle.tf_value.specs.Tree.{tree_of};
+ghost use Rattle.tf_value_data.specs.Tree.{tree_of};
 
 use crate::values::tree_from;
 use serde_json::Value as Json;
 use std::alloc::{AllocError, Global};
 use tf_provider_protocol::{Op, Reply, Request};
-use tf_value::Value;
+use tf_value_data::Value;
 
 /// A string's text.
 pub(crate) fn text_from(json: Option<&Json>) -> Result<Option<String>, AllocError>

@@ -4,10 +4,10 @@ ghost use Rattle.std.specs.Prelude.{◌≡◌, option_map, string_bytes};
 ghost use Rattle.std.specs.Str.{bytes_eq};
 ghost use Rattle.tf_provider_log.specs.Same.{is_same, is_same_option};
 ghost use Rattle.tf_provider_protocol.specs.Meaning.{asked};
-ghost use Rattle.tf_value.specs.Tree.{same, tree_of};
+ghost use Rattle.tf_value_data.specs.Tree.{same, tree_of};
 
 use tf_provider_protocol::Request;
-use tf_value::Value;
+use tf_value_data::Value;
 
 /// Whether two requests are to do the same, to the same object, with the same prior and wanted object.
 pub(crate) fn is_same(one: &Request, other: &Request) -> bool

@@ -3,12 +3,12 @@
 ghost use Rattle.std.specs.Prelude.{◌≡◌, IfOk};
 ghost use Rattle.serde_json.specs.View.{view, items_view as json_items, members_view};
 ghost use Rattle.tf_value_json.specs.Json.{tree_from, items_from, entries_from};
-ghost use Rattle.tf_value.specs.Tree.{tree_of, items_view, entries_view};
+ghost use Rattle.tf_value_data.specs.Tree.{tree_of, items_view, entries_view};
 
 use serde_json::{Map, Value as Json};
 use std::alloc::{AllocError, Global};
 use std::collections::BTreeMap;
-use tf_value::Value;
+use tf_value_data::Value;
 
 /// The value that a tree reads as, with an unknown part for each number that isn't a whole one of 64 bits with a sign.
 #[cycle(read)]

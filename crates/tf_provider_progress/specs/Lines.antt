@@ -4,8 +4,8 @@ use Rattle.std.specs.List.{list_all}
 use Rattle.tf_provider_protocol.specs.Meaning.{Answer, Asked, object, gone}
 use Rattle.tf_provider_protocol.specs.declared.request.Op.{Op}
 use Rattle.tf_provider_protocol.specs.declared.request.Op.TheVariants as op
-use Rattle.tf_value.specs.Tree as tree
-use Rattle.tf_value.specs.Tree.{part_at}
+use Rattle.tf_value_data.specs.Tree as tree
+use Rattle.tf_value_data.specs.Tree.{part_at}
 
 abbrev pub deposed_suffix : Option (List ℕ) → List ℕ
 deposed_suffix None = []

@@ -3,12 +3,12 @@
 ghost use Rattle.std.specs.List.{list_all};
 ghost use Rattle.std.specs.Prelude.{◌≡◌, ◌++◌, IfOk, OnOk, option_map, string_bytes};
 ghost use Rattle.tf_provider_protocol.specs.Meaning.{answered, asked};
-ghost use Rattle.tf_value.specs.Tree.{tree_of};
+ghost use Rattle.tf_value_data.specs.Tree.{tree_of};
 ghost use Rattle.tf_provider_progress.specs.Lines.{after, begin_word, begun_line, duration, end_word, ended_line, ended_well, id_of, id_suffix, in_brackets, is_plain, is_printable, name, object_after};
 
 use std::alloc::{AllocError, Global};
 use tf_provider_protocol::{Op, Reply, Request};
-use tf_value::Value;
+use tf_value_data::Value;
 
 /// The longest id that is shown, in bytes.
 const LONGEST: usize = 80;

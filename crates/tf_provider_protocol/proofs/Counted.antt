@@ -1,8 +1,8 @@
 -- How many keys a map has, beside how many attributes there are.
 use Rattle.std.proofs.Common.{◌≡◌, List, [], ◌∷◌, length, map, Bool, true, false, ◌&&◌, refl, arith, String, Global, string_bytes}
 use Rattle.std.specs.Str.{bytes_eq}
-use Rattle.tf_value.specs.Tree.{keys_of, entries_view}
-use Rattle.tf_value.specs.declared.value.Value.{Value}
+use Rattle.tf_value_data.specs.Tree.{keys_of, entries_view}
+use Rattle.tf_value_data.specs.declared.value.Value.{Value}
 use Rattle.tf_provider_protocol.specs.declared.schema.Attribute.{Attribute}
 use Rattle.tf_provider_protocol.specs.Schema.{attribute_of}
 use Rattle.tf_provider_protocol.specs.Verdict.{same_names}

@@ -12,7 +12,7 @@ use Rattle.std.proofs.lemmas.Map.Text.{is_eq-slice_cmp}
 use Rattle.tf_config_address.specs.Name.{is_name}
 use Rattle.tf_provider_protocol.specs.declared.schema.Attribute.{Attribute}
 use Rattle.tf_provider_protocol.specs.Schema.{attribute_of, AttributeView, IsSchema, placed, place_in, in_order, is_below, ascends, name_is_in, names_differ, is_reserved, fault_of}
-use Rattle.tf_value.proofs.Conjunction.{and-first, and-second, and-both}
+use Rattle.tf_value_data.proofs.Conjunction.{and-first, and-second, and-both}
 
 -- an attribute is inserted before the first whose name isn't below its own
 pub placed-insert : (xs : List AttributeView) (a : AttributeView) → placed xs a ≡ insert xs (place_in xs a.name) a

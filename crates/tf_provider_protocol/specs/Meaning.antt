@@ -1,6 +1,6 @@
 -- What a provider means, as plain data: what it answers to each request, and its schema of each type.
 use Rattle.std.specs.Prelude.{ℕ, List, Option, Some, None, find, is_some, option_map, option_and_then, string_bytes}
-use Rattle.tf_value.specs.Tree.{Tree, tree_of}
+use Rattle.tf_value_data.specs.Tree.{Tree, tree_of}
 use Rattle.tf_provider_protocol.specs.Schema.{SchemaView}
 use Rattle.tf_provider_protocol.specs.declared.request.Op.{Op}
 use Rattle.tf_provider_protocol.specs.declared.request.Request.{Request}

@@ -3,9 +3,9 @@ use Rattle.std.specs.Prelude.{◌≡◌, ℕ, Bool, true, false, ◌&&◌, ◌||
 use Rattle.std.specs.List.{list_all, position_from}
 use Rattle.std.specs.Option.{option_map_or}
 use Rattle.std.specs.Str.{bytes_eq}
-use Rattle.tf_value.specs.Tree.{Tree, null, boolean, whole, text, map, part_at, keys_of}
-use Rattle.tf_value.specs.Refinement.{refined}
-use Rattle.tf_value.specs.Stored.{may_be_stored}
+use Rattle.tf_value_data.specs.Tree.{Tree, null, boolean, whole, text, map, part_at, keys_of}
+use Rattle.tf_value_data.specs.Refinement.{refined}
+use Rattle.tf_value_data.specs.Stored.{may_be_stored}
 use Rattle.tf_provider_protocol.specs.Schema.{AttributeView, SchemaView}
 use Rattle.tf_provider_protocol.specs.Meaning.{Asked, Answer, object, gone, failed}
 use Rattle.tf_provider_protocol.specs.declared.request.Op.{Op}

@@ -1,6 +1,6 @@
 //! What a provider is asked, and what it replies.
 
-use tf_value::Value;
+use tf_value_data::Value;
 
 /// What a provider is to do with an object.
 #[derive(Clone, Copy, Debug, PartialEq, Eq)]

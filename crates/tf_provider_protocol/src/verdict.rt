@@ -4,13 +4,13 @@ ghost use Rattle.std.specs.List.{list_all, position_from};
 ghost use Rattle.std.specs.Prelude.{◌≡◌, IsTrue, map, option_map};
 ghost use Rattle.tf_provider_protocol.specs.Meaning.{asked, answered};
 ghost use Rattle.tf_provider_protocol.specs.Schema.{attribute_of};
-ghost use Rattle.tf_value.specs.Tree.{keys_of, tree_of, entries_view};
+ghost use Rattle.tf_value_data.specs.Tree.{keys_of, tree_of, entries_view};
 ghost use Rattle.tf_provider_protocol.specs.Verdict.{asks_fully, verdict_on, verdict_on_object, well_formed, has_attributes, same_names, fits, fits_in, is_allowed, contradicts_at};
 
 use crate::request::{Op, Reply, Request};
 use crate::schema::{Attribute, Kind, Mode, Schema};
 use std::collections::BTreeMap;
-use tf_value::{Value, may_be_stored, refines};
+use tf_value_data::{Value, may_be_stored, refines};
 
 /// Whether a reply keeps what was promised.
 #[derive(Clone, Copy, Debug, PartialEq, Eq)]

@@ -2,7 +2,7 @@
 use Rattle.std.specs.Prelude.{◌≡◌, ℕ, ◌++◌, Bool, true, false, ◌&&◌, nat_lt, ℤ, pos, List, [], ◌∷◌, Option, Some, None, if◌then◌else◌, codes, option_and_then}
 use Rattle.std.specs.Option.{option_map_or}
 use Rattle.std.specs.Str.{bytes_eq}
-use Rattle.tf_value.specs.Tree.{Tree, text, whole, map, part_at, put}
+use Rattle.tf_value_data.specs.Tree.{Tree, text, whole, map, part_at, put}
 use Rattle.tf_provider_protocol.specs.Schema.{AttributeView, SchemaView}
 use Rattle.tf_provider_protocol.specs.Meaning.{Asked, Answer, Meaning, object, gone, failed}
 use Rattle.tf_provider_protocol.specs.declared.request.Op.{Op}

@@ -4,11 +4,11 @@ ghost use Rattle.std.specs.Option.{option_map_or};
 ghost use Rattle.std.specs.Prelude.{◌≡◌, ◌++◌, IfOk, false, option_map, string_bytes};
 ghost use Rattle.tf_provider_protocol.specs.Meaning.{asked, answered, failed};
 ghost use Rattle.tf_provider_sim.specs.Table.{sim_answer, net_answer, net_made, host_answer, host_made, has_text, text_in, is_large, with_text, with_truth};
-ghost use Rattle.tf_value.specs.Tree.{tree_of, part_at};
+ghost use Rattle.tf_value_data.specs.Tree.{tree_of, part_at};
 
 use std::alloc::{AllocError, Global};
 use tf_provider_protocol::{Op, Reply, Request};
-use tf_value::{Value, copy};
+use tf_value_data::{Value, copy};
 
 /// The answer to a request, by its type.
 pub fn answer(alloc: Global, request: &Request) -> Result<Reply, AllocError>

@@ -9,13 +9,13 @@ use Rattle.serde_json.specs.Data.{Data, string, number as json_number, unsigned,
 use Rattle.serde_json.specs.View.{items_of}
 use Rattle.tf_value_json.specs.Plain.{ArePlainMembers, AreAbove}
 use Rattle.tf_value_json.specs.Json.{value_data, entries_data}
-use Rattle.tf_value.specs.Tree.{Tree, map, Entries, no_entries, entry, put}
+use Rattle.tf_value_data.specs.Tree.{Tree, map, Entries, no_entries, entry, put}
 use Rattle.tf_value_json.proofs.Forms.{value_from-value_data}
-use Rattle.tf_value.proofs.WithLists.{no_set-lists}
+use Rattle.tf_value_data.proofs.WithLists.{no_set-lists}
 use Rattle.tf_config_address.specs.ObjectId.{InstanceKeyView, single, number, name}
 use Rattle.tf_state.specs.Reading.{value_in, values_in, key_in, deposed_in, attributes_in, addresses_in, dependencies_in, tainted_in, flag_in, put_text, put_new, below, below_or_zero, output_in}
 use Rattle.tf_state.specs.Text.{key_data, status_data, flag_data, dependencies_data, output_data, outputs_data}
-use Rattle.tf_value.specs.Stored.{IsTable}
+use Rattle.tf_value_data.specs.Stored.{IsTable}
 use Rattle.tf_state.proofs.ShownTables.{IsSaved, AreSaved, shown}
 use Rattle.tf_state.specs.Valid.{IsAttributes, IsKey, IsDeposed, AreAddresses}
 use Rattle.tf_state.proofs.ValueForms.{value_read}

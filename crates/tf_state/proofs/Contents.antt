@@ -1,7 +1,7 @@
 -- What is read of a property that holds values or addresses is what it says.
 use Rattle.std.proofs.Common.{◌≡◌, ℕ, List, Option, Some, None, option_map, sym, ap, ◌∙◌}
 use Rattle.serde_json.specs.Data.{Data, array, object}
-use Rattle.tf_value.specs.Tree.{Tree, map, Entries, no_entries}
+use Rattle.tf_value_data.specs.Tree.{Tree, map, Entries, no_entries}
 use Rattle.tf_state.specs.Reading.{attributes_in, dependencies_in, output_in, outputs_in, value_in, values_in}
 use Rattle.tf_state.specs.Table.{SaysAttributes, SaysDependencies, SaysOutput, SaysOutputs, SaysValue}
 use Rattle.tf_state.proofs.Gathered.{addresses-said, addresses-say}

@@ -8,7 +8,7 @@ use Rattle.serde_json.specs.Find.{of_integer, is_float}
 use Rattle.serde_json.specs.View.{items_of}
 use Rattle.serde_json.specs.Written.{has_float, items_have_float, members_have_float}
 use Rattle.tf_value_json.specs.Json.{value_data, items_data, entries_data, texts_data}
-use Rattle.tf_value.specs.Tree.{Tree, whole as whole_number, list, map, set, Items, no_items, item, Entries, no_entries, entry}
+use Rattle.tf_value_data.specs.Tree.{Tree, whole as whole_number, list, map, set, Items, no_items, item, Entries, no_entries, entry}
 use Rattle.std.specs.Prelude.{Option, Some, None, option_map}
 use Rattle.tf_config_address.specs.ObjectId.{InstanceKeyView, single, number, name}
 use Rattle.tf_state_data.specs.Record.{RecordView}

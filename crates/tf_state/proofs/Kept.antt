@@ -11,7 +11,7 @@ use Rattle.tf_state_data.specs.Record.{RecordView}
 use Rattle.tf_state_data.specs.Resource.{ResourceView, with_record}
 use Rattle.tf_state_data.proofs.OrderKept.{with-sorted, without-sorted}
 use Rattle.tf_config_address.proofs.Totals.{object_id_total, addr_total}
-use Rattle.tf_value.proofs.Tables.{no_table}
+use Rattle.tf_value_data.proofs.Tables.{no_table}
 use Rattle.tf_state.specs.Laws.{EmptyIsValid, OutputsKeepState, SerialKeepsState, PutKeepsState, PutKeepsResource, RemoveKeepsState, RemoveKeepsResource}
 use Rattle.tf_state.specs.Arrangement.{is_some_record}
 use Rattle.tf_state.specs.Valid.{IsPresent, IsRecord, IsResource}

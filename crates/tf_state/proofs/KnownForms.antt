@@ -5,11 +5,11 @@ use Rattle.std.specs.Ordering.{match_ordering}
 use Rattle.std.specs.Prelude.{option_and_then}
 use Rattle.serde_json.specs.Data.{Data, Members, no_members, member}
 use Rattle.tf_value_json.specs.Json.{tree_from}
-use Rattle.tf_value.specs.Known.{known, known_entries}
-use Rattle.tf_value.specs.Tree.{Tree, Entries, no_entries, entry, put, tree_of, entries_view}
-use Rattle.tf_value.specs.declared.value.Value.{Value, Map as Mapped}
-use Rattle.tf_value.proofs.Views.{tree_of-Map}
-use Rattle.tf_value.proofs.Conjunction.{and-first, and-second, and-both}
+use Rattle.tf_value_data.specs.Known.{known, known_entries}
+use Rattle.tf_value_data.specs.Tree.{Tree, Entries, no_entries, entry, put, tree_of, entries_view}
+use Rattle.tf_value_data.specs.declared.value.Value.{Value, Map as Mapped}
+use Rattle.tf_value_data.proofs.Views.{tree_of-Map}
+use Rattle.tf_value_data.proofs.Conjunction.{and-first, and-second, and-both}
 use Rattle.tf_state.specs.Reading.{is_within, value_in, values_in}
 
 at_place : (o : Ordering) (a b c : Entries) → known_entries a ≡ true → known_entries b ≡ true → known_entries c ≡ true → known_entries (match_ordering o a b c) ≡ true

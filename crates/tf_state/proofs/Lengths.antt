@@ -7,9 +7,9 @@ use Rattle.tf_state_data.specs.State.{outputs_of}
 use Rattle.tf_state_data.specs.declared.object.Object.{Object}
 use Rattle.tf_state.specs.Text.{outputs_data}
 use Rattle.tf_state.specs.Types.{item_types, entry_types}
-use Rattle.tf_value.specs.Tree.{items_view, entries_view}
-use Rattle.tf_value.specs.declared.value.Value.{Value}
-use Rattle.tf_value.proofs.Views.{Entry}
+use Rattle.tf_value_data.specs.Tree.{items_view, entries_view}
+use Rattle.tf_value_data.specs.declared.value.Value.{Value}
+use Rattle.tf_value_data.proofs.Views.{Entry}
 
 pub items_len-map : {A B : Type 0} (f : B → Data) (g : A → B) (xs : List A) → items_len (json_items_of (map f (map g xs))) ≡ length xs
 items_len-map f g [] = refl

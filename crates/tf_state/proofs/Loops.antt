@@ -7,7 +7,7 @@ use Rattle.std.specs.Ordering.{match_ordering}
 use Rattle.serde_json.specs.Data.{item, array}
 use Rattle.serde_json.specs.View.{view, items_view}
 use Rattle.serde_json.specs.declared.value.Value.{Value}
-use Rattle.tf_value.specs.Tree.{put, tree_of}
+use Rattle.tf_value_data.specs.Tree.{put, tree_of}
 use Rattle.tf_state.specs.Reading.{put_text, is_unsensitive}
 use Rattle.tf_state_data.specs.State.{outputs_of}
 use Rattle.tf_state_data.specs.declared.object.Object.{Object}

@@ -7,8 +7,8 @@ use Rattle.serde_json.specs.View.{items_of}
 use Rattle.tf_value_json.specs.Plain.{IsPlain, ArePlain, ArePlainMembers, AreAbove}
 use Rattle.tf_value_json.proofs.Puts.{plain-put, depth-put}
 use Rattle.tf_value_json.specs.Json.{value_data, items_data, entries_data, texts_data}
-use Rattle.tf_value.specs.Measure as measure
-use Rattle.tf_value.specs.Tree.{Tree, null, boolean as truth, whole, text, list, map, set, unknown, Items, no_items, item, Entries, no_entries, entry}
+use Rattle.tf_value_data.specs.Measure as measure
+use Rattle.tf_value_data.specs.Tree.{Tree, null, boolean as truth, whole, text, list, map, set, unknown, Items, no_items, item, Entries, no_entries, entry}
 use Rattle.tf_config_address.specs.ObjectId.{InstanceKeyView, single, number, name}
 use Rattle.tf_state_data.specs.Record.{RecordView}
 use Rattle.tf_state_data.specs.Resource.{ResourceView}

@@ -14,11 +14,11 @@ use Rattle.tf_value_json.specs.Plain.{IsPlain, ArePlain, ArePlainMembers, IsSort
 use Rattle.tf_value_json.proofs.Puts.{plain-put}
 use Rattle.tf_value_json.proofs.Sorted.{read_is_sorted, sorted-get}
 use Rattle.tf_value_json.specs.Json.{IsJson, IsArray, IsObject, AreTexts, value_data, entries_data, tree_from}
-use Rattle.tf_value.specs.Known.{known}
-use Rattle.tf_value.specs.Tree.{Tree, null, boolean, whole, text, list, map, set, Items, no_items, item, Entries, no_entries, entry, put}
+use Rattle.tf_value_data.specs.Known.{known}
+use Rattle.tf_value_data.specs.Tree.{Tree, null, boolean, whole, text, list, map, set, Items, no_items, item, Entries, no_entries, entry, put}
 use Rattle.tf_value_json.proofs.Forms.{form_of, form-held, form-tree_from, tree_from-no_set, IsJson-one_form}
-use Rattle.tf_value.proofs.Tables.{at_order}
-use Rattle.tf_value.specs.Stored.{IsTable}
+use Rattle.tf_value_data.proofs.Tables.{at_order}
+use Rattle.tf_value_data.specs.Stored.{IsTable}
 use Rattle.tf_state.specs.Laws.{ReadIsValid}
 use Rattle.tf_config_address.specs.ResourceAddr.{addr_cmp}
 use Rattle.tf_state_data.specs.Addresses.{AreByAddress}

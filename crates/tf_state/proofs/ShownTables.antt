@@ -10,13 +10,13 @@ use Rattle.serde_json.specs.Data as json
 use Rattle.serde_json.specs.Find.{of_integer}
 use Rattle.tf_value_json.specs.Plain.{IsPlain, ArePlain, ArePlainMembers, AreAbove}
 use Rattle.tf_value_json.specs.Json.{value_data, items_data, entries_data, texts_data}
-use Rattle.tf_value.specs.Known.{known}
-use Rattle.tf_value.specs.Measure.{IsWithinLimits}
-use Rattle.tf_value.specs.Parts.{items_have_only, entries_have_only}
-use Rattle.tf_value.specs.Sets.{has_no_set}
-use Rattle.tf_value.proofs.Conjunction.{and-first, and-second}
-use Rattle.tf_value.specs.Stored.{EachMayBeStored, IsTable}
-use Rattle.tf_value.specs.Tree.{Tree, null, boolean, whole, text, list, map, set, unknown, Items, no_items, item, Entries, no_entries, entry, keys_of, IsHeld, AreHeld, AreHeldEntries, IsSorted, AreSorted, AreSortedEntries}
+use Rattle.tf_value_data.specs.Known.{known}
+use Rattle.tf_value_data.specs.Measure.{IsWithinLimits}
+use Rattle.tf_value_data.specs.Parts.{items_have_only, entries_have_only}
+use Rattle.tf_value_data.specs.Sets.{has_no_set}
+use Rattle.tf_value_data.proofs.Conjunction.{and-first, and-second}
+use Rattle.tf_value_data.specs.Stored.{EachMayBeStored, IsTable}
+use Rattle.tf_value_data.specs.Tree.{Tree, null, boolean, whole, text, list, map, set, unknown, Items, no_items, item, Entries, no_entries, entry, keys_of, IsHeld, AreHeld, AreHeldEntries, IsSorted, AreSorted, AreSortedEntries}
 
 -- A value that may be saved, but for the order of its keys.
 abbrev pub IsSaved : Tree → Type 0

@@ -15,10 +15,10 @@ use Rattle.std.proofs.lemmas.Slice.Eq.{bytes_eq-Decides}
 use Rattle.serde_json.specs.Data.{Data, Members, no_members, member}
 use Rattle.serde_json.specs.Find.{get as get_property}
 use Rattle.tf_value_json.specs.Json.{tree_from}
-use Rattle.tf_value.specs.Known.{known}
-use Rattle.tf_value.specs.Tree.{Tree, Entries, no_entries, entry, get, put}
+use Rattle.tf_value_data.specs.Known.{known}
+use Rattle.tf_value_data.specs.Tree.{Tree, Entries, no_entries, entry, get, put}
 use Rattle.tf_value_json.proofs.Forms.{IsJson-known, form-tree_from, tree_from-no_set, tree_from-value}
-use Rattle.tf_value.proofs.Keys.{get-put, get-put_other}
+use Rattle.tf_value_data.proofs.Keys.{get-put, get-put_other}
 use Rattle.tf_state.specs.Reading.{is_within, output_in, required_value, value_in, values_in}
 use Rattle.tf_state.specs.Table.{EachMemberSays, SaysOutput, SaysPart, SaysTable, SaysValue, last_member, names_of}
 use Rattle.tf_state.specs.Words.{is_shaped}

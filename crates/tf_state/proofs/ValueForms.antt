@@ -3,9 +3,9 @@ use Rattle.std.proofs.Common.{◌≡◌, ◌<◌, Bool, true, false, ◌&&◌, S
 use Rattle.std.proofs.lemmas.Bool.{and_parts, le-leb, lt-leb}
 use Rattle.serde_json.specs.Data.{Data}
 use Rattle.tf_value_json.specs.Json.{value_from, tree_from, IsUnread}
-use Rattle.tf_value.specs.Known.{known}
-use Rattle.tf_value.specs.Measure.{weight, depth, max_weight, max_depth, IsWithinLimits, IsTooLarge}
-use Rattle.tf_value.specs.Tree.{Tree}
+use Rattle.tf_value_data.specs.Known.{known}
+use Rattle.tf_value_data.specs.Measure.{weight, depth, max_weight, max_depth, IsWithinLimits, IsTooLarge}
+use Rattle.tf_value_data.specs.Tree.{Tree}
 use Rattle.tf_value_json.specs.declared.fault.JsonFault.{JsonFault}
 use Rattle.tf_value_json.specs.declared.fault.JsonFault.TheVariants.{UnknownInside, NotWhole, TooLarge, OutOfMemory}
 use Rattle.tf_state.specs.Reading.{is_within, value_in}

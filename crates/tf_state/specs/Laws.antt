@@ -5,8 +5,8 @@ use Rattle.tf_config_address.specs.ObjectId.{ObjectIdView}
 use Rattle.tf_state_data.specs.Record.{RecordView}
 use Rattle.tf_state_data.specs.Resource.{ResourceView, with_record, without_record}
 use Rattle.tf_state_data.specs.State.{StateView, empty_state, with_resource, without_resource}
-use Rattle.tf_value.specs.Stored.{IsTable}
-use Rattle.tf_value.specs.Tree.{Entries}
+use Rattle.tf_value_data.specs.Stored.{IsTable}
+use Rattle.tf_value_data.specs.Tree.{Entries}
 use Rattle.tf_state.specs.Table.{Reads}
 use Rattle.tf_state.specs.Text.{state_text}
 use Rattle.tf_state.specs.Valid.{IsPresent, IsRecord, IsResource, IsValid}

@@ -2,7 +2,7 @@
 use Rattle.std.specs.Prelude.{List, map, string_bytes}
 use Rattle.tf_config_address.specs.ResourceAddr.{addr_of}
 use Rattle.tf_config_address.specs.declared.addr.ResourceAddr.{ResourceAddr}
-use Rattle.tf_value.specs.Tree.{tree_of}
+use Rattle.tf_value_data.specs.Tree.{tree_of}
 use Rattle.tf_config_address.specs.ObjectId.{object_id_of}
 use Rattle.tf_state_data.specs.Record.{RecordView, record_of}
 use Rattle.tf_state_data.specs.Resource.{ResourceView}

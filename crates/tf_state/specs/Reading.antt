@@ -11,9 +11,9 @@ use Rattle.serde_json.specs.Find.{get}
 use Rattle.serde_json.specs.Read.{read}
 use Rattle.tf_config_address.specs.Name.{is_name}
 use Rattle.tf_value_json.specs.Json.{tree_from}
-use Rattle.tf_value.specs.Known.{known}
-use Rattle.tf_value.specs.Measure.{weight, depth, max_weight, max_depth}
-use Rattle.tf_value.specs.Tree.{Tree, map, Entries, no_entries, put}
+use Rattle.tf_value_data.specs.Known.{known}
+use Rattle.tf_value_data.specs.Measure.{weight, depth, max_weight, max_depth}
+use Rattle.tf_value_data.specs.Tree.{Tree, map, Entries, no_entries, put}
 use Rattle.tf_config_address.specs.ObjectId.{InstanceKeyView, single, number, name, ObjectIdView}
 use Rattle.tf_state_data.specs.Record.{RecordView}
 use Rattle.tf_state_data.specs.Resource.{ResourceView}

@@ -13,9 +13,9 @@ use Rattle.serde_json.specs.Find.{get}
 use Rattle.serde_json.specs.Read.{read}
 use Rattle.tf_config_address.specs.Name.{is_name}
 use Rattle.tf_value_json.specs.Json.{IsJson}
-use Rattle.tf_value.specs.Measure.{IsWithinLimits}
-use Rattle.tf_value.specs.Sets.{has_no_set}
-use Rattle.tf_value.specs.Tree.{Tree, map, Entries, no_entries, entry, get as value_at}
+use Rattle.tf_value_data.specs.Measure.{IsWithinLimits}
+use Rattle.tf_value_data.specs.Sets.{has_no_set}
+use Rattle.tf_value_data.specs.Tree.{Tree, map, Entries, no_entries, entry, get as value_at}
 use Rattle.tf_config_address.specs.ObjectId.{InstanceKeyView, single, number, name}
 use Rattle.tf_state.specs.Arrangement.{record_cmp, resource_cmp, with_records}
 use Rattle.tf_state_data.specs.Record.{RecordView}

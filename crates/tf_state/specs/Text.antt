@@ -4,7 +4,7 @@ use Rattle.serde_json.specs.Data.{Data, number as json_number, unsigned, string,
 use Rattle.serde_json.specs.View.{items_of}
 use Rattle.tf_value_json.specs.Text.{text_of}
 use Rattle.tf_value_json.specs.Json.{value_data}
-use Rattle.tf_value.specs.Tree.{Tree, Entries, no_entries, entry}
+use Rattle.tf_value_data.specs.Tree.{Tree, Entries, no_entries, entry}
 use Rattle.tf_config_address.specs.ObjectId.{InstanceKeyView, single, number, name}
 use Rattle.tf_state_data.specs.Record.{RecordView}
 use Rattle.tf_state_data.specs.Resource.{ResourceView}

@@ -1,7 +1,7 @@
 -- The type that a state names beside an output's value, which is made of the value alone.
 use Rattle.std.specs.Prelude.{ℕ, List, codes}
 use Rattle.serde_json.specs.Data.{Data, string, array, object, Items as JsonItems, no_items as no_json_items, item as json_item, Members, no_members, member}
-use Rattle.tf_value.specs.Tree.{Tree, null, boolean, whole, text, list, map, set, unknown, Items, no_items, item, Entries, no_entries, entry}
+use Rattle.tf_value_data.specs.Tree.{Tree, null, boolean, whole, text, list, map, set, unknown, Items, no_items, item, Entries, no_entries, entry}
 
 -- a word beside a tree
 abbrev pub pair_data : List ℕ → Data → Data

@@ -5,8 +5,8 @@ use Rattle.std.specs.List.{AllByRecursion}
 use Rattle.std.specs.Ordering.{nat_cmp}
 use Rattle.std.specs.declared.cmp.Ordering.TheVariants.{Greater}
 use Rattle.tf_config_address.specs.Name.{is_name}
-use Rattle.tf_value.specs.Stored.{IsTable}
-use Rattle.tf_value.specs.Tree.{Tree, map}
+use Rattle.tf_value_data.specs.Stored.{IsTable}
+use Rattle.tf_value_data.specs.Tree.{Tree, map}
 use Rattle.tf_state_data.specs.Addresses.{AreByAddress}
 use Rattle.tf_config_address.specs.ObjectId.{InstanceKeyView, single, number, name}
 use Rattle.tf_state_data.specs.Ids.{AreById}

@@ -8,7 +8,7 @@ ghost use Rattle.serde_json.specs.View.{view, members_view};
 ghost use Rattle.tf_state.specs.Reading.{IsNoJson, IsRefused, is_state, is_unchecked, is_version, output_in, outputs_in, required_value, state_in, text_or, values_in};
 ghost use Rattle.tf_state.specs.Table.{IsBeyond, IsPlannable, IsUnread, Reads};
 ghost use Rattle.tf_state_data.specs.State.{outputs_of, state_of};
-ghost use Rattle.tf_value.specs.Tree.{no_entries, tree_of};
+ghost use Rattle.tf_value_data.specs.Tree.{no_entries, tree_of};
 
 use crate::fault::StateFault;
 use crate::resource_reading::read_resources;
@@ -31,7 +31,7 @@ const MAX_RESOURCES: usize = 4_000;
 ///
 /// - `BadState` where the bytes are no state's text: they aren't UTF-8 or no JSON, or a property isn't listed,
 ///   is missing or has a value that the format refuses, or a value in it isn't whole or is beyond the limits of
-///   `tf_value`, or two resources have one address, or two records of a resource one id.
+///   `tf_value_data`, or two resources have one address, or two records of a resource one id.
 /// - `Limit` where they are, and the state has more than 4,000 resources with records, or the serial 4294967295.
 /// - `OutOfMemory` only where there is no memory.
 #[tactic(auto, using(crate::proofs::Refusals::no_json, crate::proofs::Refusals::no_state, crate::proofs::Refusals::reads_by_table, crate::proofs::Refusals::beyond_limits))]

@@ -4,11 +4,11 @@ ghost use Rattle.std.specs.Prelude.{◌≡◌, OnOk};
 ghost use Rattle.serde_json.specs.Data.{array, object};
 ghost use Rattle.serde_json.specs.Events.{SendsValue};
 ghost use Rattle.tf_state.specs.Types.{type_data, item_types, entry_types};
-ghost use Rattle.tf_value.specs.Tree.{tree_of, items_view, entries_view};
+ghost use Rattle.tf_value_data.specs.Tree.{tree_of, items_view, entries_view};
 
 use serde::Serializer;
 use std::collections::BTreeMap;
-use tf_value::Value;
+use tf_value_data::Value;
 
 /// The type of a value, as a state names it.
 #[cycle(types)]

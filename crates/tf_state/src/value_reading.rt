@@ -5,7 +5,7 @@ ghost use Rattle.serde_json.specs.Data.{array};
 ghost use Rattle.serde_json.specs.View.{view, items_view, members_view};
 ghost use Rattle.tf_config_address.specs.ObjectId.{deposed_of, instance_key_of, object_id_of};
 ghost use Rattle.tf_state.specs.Reading.{IsRefused, address_in, addresses_in, attributes_in, below, below_or_zero, dependencies_in, deposed_in, flag_in, is_unsensitive, key_in, name_in, id_in, tainted_in, text_in, text_or, value_in, values_in};
-ghost use Rattle.tf_value.specs.Tree.{no_entries, tree_of, entries_view};
+ghost use Rattle.tf_value_data.specs.Tree.{no_entries, tree_of, entries_view};
 
 use crate::fault::StateFault;
 use crate::shape::{is_address, is_deposed_key};
@@ -14,7 +14,7 @@ use std::alloc::Global;
 use std::collections::{BTreeMap, BTreeSet};
 use tf_config_address::{InstanceKey, ObjectId, is_name};
 use tf_state_data::Object;
-use tf_value::Value;
+use tf_value_data::Value;
 use tf_value_json::{JsonFault, from_json};
 
 /// A value, which is known and within the limits.

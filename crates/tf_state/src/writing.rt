@@ -10,7 +10,7 @@ ghost use Rattle.tf_state_data.specs.State.{outputs_of, state_of};
 ghost use Rattle.tf_state.specs.Arrangement.{is_some_record, with_records};
 ghost use Rattle.tf_state.specs.Sending.{SendsWhere};
 ghost use Rattle.tf_state.specs.Text.{output_data, outputs_data, record_data, resource_data, state_data, state_text};
-ghost use Rattle.tf_value.specs.Tree.{tree_of};
+ghost use Rattle.tf_value_data.specs.Tree.{tree_of};
 
 use crate::reading::Outputs;
 use crate::record_writing::send_record;

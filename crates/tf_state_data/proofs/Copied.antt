@@ -9,8 +9,8 @@ use Rattle.tf_state_data.specs.State.{outputs_of}
 use Rattle.tf_state_data.specs.contracts.record.RecordClone.TheImpl as RecordClone
 use Rattle.tf_state_data.specs.declared.object.Object.{Object}
 use Rattle.tf_state_data.specs.declared.record.Record.{Record}
-pub use Rattle.tf_value.proofs.Copied.{copied}
-use Rattle.tf_value.specs.Tree.{Tree, entry, tree_of}
+pub use Rattle.tf_value_data.proofs.Copied.{copied}
+use Rattle.tf_value_data.specs.Tree.{Tree, entry, tree_of}
 
 record_seen : {p q : ObjectIdView} {t u : Tree} {m n : ℕ} {a b c d : Bool} {xs ys : List (List ℕ)} → q ≡ p → u ≡ t → n ≡ m → b ≡ a → ys ≡ xs → d ≡ c
     → ◌≡◌ {A = RecordView} (record { id = q; attributes = u; schema_version = n; tainted = b; dependencies = ys; create_before_destroy = d })

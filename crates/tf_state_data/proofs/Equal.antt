@@ -9,7 +9,7 @@ use Rattle.std.specs.declared.alloc.Global.{Global}
 use Rattle.tf_state_data.specs.Equality.{attributes_of}
 use Rattle.tf_state_data.specs.State.{outputs_of}
 use Rattle.tf_state_data.specs.declared.object.Object.{Object}
-use Rattle.tf_value.specs.Tree.{same, same_entries}
+use Rattle.tf_value_data.specs.Tree.{same, same_entries}
 
 -- where a test passes, the next one decides
 pub passed : {value test fact next : Bool} → test ≡ fact → test ≡ true → value ≡ next → value ≡ (fact && next)

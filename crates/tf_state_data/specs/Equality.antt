@@ -11,8 +11,8 @@ use Rattle.tf_state_data.specs.Record.{RecordView, record_of}
 use Rattle.tf_state_data.specs.Resource.{ResourceView, resource_of}
 use Rattle.tf_state_data.specs.State.{StateView, state_of}
 use Rattle.tf_state_data.specs.declared.object.Object.{Object}
-use Rattle.tf_value.specs.Equality.{same_Decides, same_entries_Decides}
-use Rattle.tf_value.specs.Tree.{Tree, tree_of, same, same_entries}
+use Rattle.tf_value_data.specs.Equality.{same_Decides, same_entries_Decides}
+use Rattle.tf_value_data.specs.Tree.{Tree, tree_of, same, same_entries}
 use mathlib.Core.Bool.{beq}
 
 -- the attributes of an object

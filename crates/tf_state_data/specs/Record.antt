@@ -2,7 +2,7 @@
 use Rattle.std.specs.Prelude.{ℕ, Bool, List, map, string_bytes}
 use Rattle.tf_config_address.specs.ObjectId.{ObjectIdView, object_id_of}
 use Rattle.tf_state_data.specs.declared.record.Record.{Record}
-use Rattle.tf_value.specs.Tree.{Tree, tree_of}
+use Rattle.tf_value_data.specs.Tree.{Tree, tree_of}
 
 -- one object of a resource, with the addresses of the resources that it depends on
 pub record RecordView : Type 0 where

@@ -8,7 +8,7 @@ use Rattle.tf_state_data.specs.Record.{RecordView}
 use Rattle.tf_state_data.specs.Resource.{ResourceView, record_at, resource_of}
 use Rattle.tf_state_data.specs.declared.object.Object.{Object}
 use Rattle.tf_state_data.specs.declared.state.State.{State}
-use Rattle.tf_value.specs.Tree.{Entries, no_entries, entries_of, tree_of}
+use Rattle.tf_value_data.specs.Tree.{Entries, no_entries, entries_of, tree_of}
 
 -- a state, with its outputs by name
 pub record StateView : Type 0 where

@@ -1,11 +1,11 @@
 //! The attributes of a resource's object.
 
 ghost use Rattle.std.specs.Prelude.{◌≡◌, true};
-ghost use Rattle.tf_value.specs.Known.{known};
-ghost use Rattle.tf_value.specs.Tree.{tree_of};
+ghost use Rattle.tf_value_data.specs.Known.{known};
+ghost use Rattle.tf_value_data.specs.Tree.{tree_of};
 
 use std::alloc::AllocError;
-use tf_value::Value;
+use tf_value_data::Value;
 
 /// A value without an unknown part: the attributes of an object that exists. That no part of it is unknown
 /// is part of the type, so that a state always has a text.
@@ -31,7 +31,7 @@ impl PartialEq for Object {
     ghost use Rattle.std.specs.Ordering.{on};
     ghost use Rattle.std.specs.Prelude.{◌↔◌, IsTrue};
     ghost use Rattle.tf_state_data.specs.Equality.{attributes_of, same_objects_part};
-    ghost use Rattle.tf_value.specs.Tree.{same};
+    ghost use Rattle.tf_value_data.specs.Tree.{same};
 
     ghost eq = { on attributes_of same };
 

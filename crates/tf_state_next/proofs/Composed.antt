@@ -25,7 +25,7 @@ use Rattle.tf_state_data.specs.Provider.{provider_text}
 use Rattle.tf_state_data.specs.Record.{RecordView}
 use Rattle.tf_state_data.specs.Resource.{ResourceView, record_at, resource_of}
 use Rattle.tf_state_data.specs.State.{StateView, resource_at}
-use Rattle.tf_value.specs.Tree.{Entries}
+use Rattle.tf_value_data.specs.Tree.{Entries}
 
 -- ---- the destroys of deposed objects
 

@@ -24,7 +24,7 @@ use Rattle.tf_state_data.specs.Ids.{AreById}
 use Rattle.tf_state_data.specs.Record.{RecordView}
 use Rattle.tf_state_data.specs.Resource.{ResourceView, record_at}
 use Rattle.tf_state_data.specs.State.{StateView, record_in, resource_at}
-use Rattle.tf_value.specs.Stored.{IsTable}
+use Rattle.tf_value_data.specs.Stored.{IsTable}
 
 -- a record may be part of a valid state at an address
 pub record SoundAt (addr : ResourceAddrView) (x : RecordView) : Type 0 where

@@ -5,7 +5,7 @@ use Rattle.tf_state_next.specs.declared.ends.RecordInput.{RecordInput}
 use Rattle.tf_state_next.specs.declared.ends.Left.{Left}
 use Rattle.tf_state_next.specs.declared.ends.Left.TheVariants as lefts
 use Rattle.tf_state_next.specs.declared.ends.Saved.{Saved}
-use Rattle.tf_value.specs.Tree.{Tree, tree_of}
+use Rattle.tf_value_data.specs.Tree.{Tree, tree_of}
 
 -- an object that a create or an update saved, and whether it is tainted
 abbrev pub SavedView : Type 0

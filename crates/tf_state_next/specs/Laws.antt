@@ -11,8 +11,8 @@ use Rattle.tf_state_next.specs.Ends.{InstanceResultView, RecordInputView}
 use Rattle.tf_state_data.specs.Addresses.{AreByAddress}
 use Rattle.tf_state_data.specs.Ids.{AreById}
 use Rattle.tf_state_data.specs.State.{StateView}
-use Rattle.tf_value.specs.Stored.{IsTable}
-use Rattle.tf_value.specs.Tree.{Entries}
+use Rattle.tf_value_data.specs.Stored.{IsTable}
+use Rattle.tf_value_data.specs.Tree.{Entries}
 
 -- resources stand in the order of their addresses, and the records of each in the order of their ids, as those of each state do
 pub record IsInOrder (s : StateView) : Type 0 where

@@ -7,8 +7,8 @@ use Rattle.tf_provider_protocol.specs.Verdict.{well_formed}
 use Rattle.tf_provider_protocol.specs.declared.verdict.Verdict.{Verdict}
 use Rattle.tf_provider_protocol.specs.declared.verdict.Verdict.TheVariants as verdict
 use Rattle.tf_state_next.specs.Ends.{SavedView, LeftView, gone, changed, unchanged}
-use Rattle.tf_value.specs.Nulls.{with_nulls}
-use Rattle.tf_value.specs.Tree.{Tree}
+use Rattle.tf_value_data.specs.Nulls.{with_nulls}
+use Rattle.tf_value_data.specs.Tree.{Tree}
 
 -- the object that was replied
 abbrev pub object_replied : Option Answer → Option Tree

@@ -11,7 +11,7 @@ use Rattle.tf_state_data.specs.Equality.{same_state}
 use Rattle.tf_state_data.specs.Provider.{provider_text}
 use Rattle.tf_state_data.specs.Resource.{ResourceView}
 use Rattle.tf_state_data.specs.State.{StateView, record_in, resource_at}
-use Rattle.tf_value.specs.Tree.{Entries}
+use Rattle.tf_value_data.specs.Tree.{Entries}
 
 -- what a state knows of the objects of an instance
 abbrev pub places_at : ResourceAddrView → InstanceKeyView → StateView → Places

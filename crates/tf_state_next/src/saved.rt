@@ -6,8 +6,8 @@ ghost use Rattle.tf_provider_protocol.specs.Schema.{SchemaView};
 ghost use Rattle.tf_provider_protocol.specs.Verdict.{verdict_on};
 ghost use Rattle.tf_state_next.specs.Ends.{left_of, saved_of};
 ghost use Rattle.tf_state_next.specs.Saved.{as_saved, formed_in, left_by_destroy, saved_by_create, saved_by_update};
-ghost use Rattle.tf_value.specs.Nulls.{with_nulls};
-ghost use Rattle.tf_value.specs.Tree.{tree_of};
+ghost use Rattle.tf_value_data.specs.Nulls.{with_nulls};
+ghost use Rattle.tf_value_data.specs.Tree.{tree_of};
 
 use crate::ends::{Left, Saved};
 use tf_provider_protocol::Verdict;

@@ -10,7 +10,7 @@ ghost use Rattle.tf_state.specs.Valid.{IsValid};
 ghost use Rattle.tf_state_data.specs.Addresses.{AreByAddress};
 ghost use Rattle.tf_state_data.specs.Resource.{resource_of};
 ghost use Rattle.tf_state_data.specs.State.{outputs_of, state_of};
-ghost use Rattle.tf_value.specs.Stored.{IsTable};
+ghost use Rattle.tf_value_data.specs.Stored.{IsTable};
 
 use crate::draft::StateDraft;
 use crate::events::Events;

@@ -6,13 +6,13 @@ use Rattle.std.specs.Prelude.{◌↔◌, FitsSigned}
 use Rattle.std.specs.Int.{w64}
 use Rattle.serde_json.specs.Data as json
 use Rattle.serde_json.specs.Find.{of_integer}
-use Rattle.tf_value.specs.Tree.{Tree, null, boolean, whole, text, list, map, set, unknown, Items, no_items, item, Entries, no_entries, entry, text_items, IsHeld, AreHeld, AreHeldEntries}
-use Rattle.tf_value.specs.Known.{known, known_items, known_entries}
+use Rattle.tf_value_data.specs.Tree.{Tree, null, boolean, whole, text, list, map, set, unknown, Items, no_items, item, Entries, no_entries, entry, text_items, IsHeld, AreHeld, AreHeldEntries}
+use Rattle.tf_value_data.specs.Known.{known, known_items, known_entries}
 use Rattle.tf_value_json.specs.Json.{IsJson, IsArray, IsObject, AreTexts, value_data, items_data, entries_data, texts_data, value_from, whole_from, tree_from, items_from, entries_from}
-use Rattle.tf_value.specs.Parts.{items_have_only, entries_have_only, items_rewritten, entries_rewritten}
-use Rattle.tf_value.specs.Sets.{has_no_set, with_lists}
-use Rattle.tf_value.proofs.Conjunction.{and-first, and-second, and-both}
-use Rattle.tf_value.proofs.WithLists.{no_set-lists, lists-known}
+use Rattle.tf_value_data.specs.Parts.{items_have_only, entries_have_only, items_rewritten, entries_rewritten}
+use Rattle.tf_value_data.specs.Sets.{has_no_set, with_lists}
+use Rattle.tf_value_data.proofs.Conjunction.{and-first, and-second, and-both}
+use Rattle.tf_value_data.proofs.WithLists.{no_set-lists, lists-known}
 
 -- texts have a form, one alone, as which they read
 form_of_texts : (ss : List (List ℕ)) → AreTexts ss (texts_data ss)

@@ -7,11 +7,11 @@ use Rattle.std.specs.Map.{keys_of as map_keys}
 use Rattle.serde_json.specs.Data.{Data}
 use Rattle.serde_json.specs.View.{members_view}
 use Rattle.serde_json.proofs.Views.{Entry as Member}
-use Rattle.tf_value.specs.Known.{known}
-use Rattle.tf_value.specs.Measure.{IsWithinLimits}
-use Rattle.tf_value.specs.Sets.{has_no_set}
-use Rattle.tf_value.specs.Stored.{MayBeStored}
-use Rattle.tf_value.specs.Tree.{Tree, IsHeld, IsSorted, AreSortedEntries, map, keys_of}
+use Rattle.tf_value_data.specs.Known.{known}
+use Rattle.tf_value_data.specs.Measure.{IsWithinLimits}
+use Rattle.tf_value_data.specs.Sets.{has_no_set}
+use Rattle.tf_value_data.specs.Stored.{MayBeStored}
+use Rattle.tf_value_data.specs.Tree.{Tree, IsHeld, IsSorted, AreSortedEntries, map, keys_of}
 use Rattle.tf_value_json.specs.Json.{tree_from, entries_from}
 use Rattle.tf_value_json.proofs.Forms.{form-tree_from, form-held, tree_from-no_set}
 

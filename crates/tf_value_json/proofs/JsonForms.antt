@@ -10,10 +10,10 @@ use Rattle.serde_json.specs.Data as json
 use Rattle.serde_json.specs.Events.{items_len, members_len}
 use Rattle.serde_json.specs.View.{view, items_view as json_items, items_of as json_items_of, members_view, members_of}
 use Rattle.serde_json.proofs.Views.{Entry as Member}
-use Rattle.tf_value.specs.Tree.{Entries, items_of, tree_of, items_view, entries_view, texts_view}
+use Rattle.tf_value_data.specs.Tree.{Entries, items_of, tree_of, items_view, entries_view, texts_view}
 use Rattle.tf_value_json.specs.Json.{value_data, items_data, entries_data, texts_data, tree_from, items_from, entries_from}
-use Rattle.tf_value.proofs.Views.{Entry, shown, below_middle}
-use Rattle.tf_value.specs.declared.value.Value.{Value}
+use Rattle.tf_value_data.proofs.Views.{Entry, shown, below_middle}
+use Rattle.tf_value_data.specs.declared.value.Value.{Value}
 use Rattle.serde_json.specs.declared.value.Value.{Value as Json}
 
 -- items that are read or written one by one

@@ -1,9 +1,9 @@
 -- The JSON form of a value with a list in place of each set.
 use Rattle.std.proofs.Common.{◌≡◌, ℕ, true, false, List, [], ◌∷◌, refl, ap}
 use Rattle.serde_json.specs.Data as json
-use Rattle.tf_value.specs.Parts.{items_rewritten, entries_rewritten}
-use Rattle.tf_value.specs.Sets.{with_lists}
-use Rattle.tf_value.specs.Tree.{Tree, list, map, set, Items, no_items, item, Entries, no_entries, entry, text_items}
+use Rattle.tf_value_data.specs.Parts.{items_rewritten, entries_rewritten}
+use Rattle.tf_value_data.specs.Sets.{with_lists}
+use Rattle.tf_value_data.specs.Tree.{Tree, list, map, set, Items, no_items, item, Entries, no_entries, entry, text_items}
 use Rattle.tf_value_json.specs.Json.{value_data, items_data, entries_data, texts_data}
 
 texts-data : (ss : List (List ℕ)) → items_data (text_items ss) ≡ texts_data ss

@@ -3,9 +3,9 @@ use Rattle.std.specs.Prelude.{ℕ, List, [], ◌∷◌, ◌^◌, pos, negsuc, �
 use Rattle.std.specs.Int.{w64}
 use Rattle.serde_json.specs.Data as json
 use Rattle.serde_json.specs.Find.{of_integer}
-use Rattle.tf_value.specs.Tree.{Tree, null, boolean, whole, text, list, map, set, unknown, Items, no_items, item, Entries, no_entries, entry}
-use Rattle.tf_value.specs.Known.{known}
-use Rattle.tf_value.specs.Measure.{IsWithinLimits, IsTooLarge}
+use Rattle.tf_value_data.specs.Tree.{Tree, null, boolean, whole, text, list, map, set, unknown, Items, no_items, item, Entries, no_entries, entry}
+use Rattle.tf_value_data.specs.Known.{known}
+use Rattle.tf_value_data.specs.Measure.{IsWithinLimits, IsTooLarge}
 use Rattle.tf_value_json.specs.declared.fault.JsonFault.{JsonFault}
 use Rattle.tf_value_json.specs.declared.fault.JsonFault.TheVariants.{UnknownInside, NotWhole, TooLarge, OutOfMemory}
 

@@ -1,9 +1,9 @@
 -- What holds of values and their JSON forms, whatever they are.
 use Rattle.std.specs.Prelude.{◌≡◌, ◌↔◌, true, Some, None}
 use Rattle.serde_json.specs.Data.{Data}
-use Rattle.tf_value.specs.Tree.{Tree, IsHeld}
-use Rattle.tf_value.specs.Known.{known}
-use Rattle.tf_value.specs.Sets.{has_no_set, with_lists}
+use Rattle.tf_value_data.specs.Tree.{Tree, IsHeld}
+use Rattle.tf_value_data.specs.Known.{known}
+use Rattle.tf_value_data.specs.Sets.{has_no_set, with_lists}
 use Rattle.tf_value_json.specs.Json.{IsJson, value_data, value_from}
 
 -- A value has at most one JSON form.

@@ -1,16 +1,16 @@
 ghost use Rattle.std.specs.Prelude.{◌≡◌, ◌+◌, ◌^◌, ◌-◌, min, IfOk, IfErr, Some, true};
 ghost use Rattle.serde_json.specs.View.{view, items_view as json_items, members_view};
-ghost use Rattle.tf_value.specs.Stored.{MayBeStored};
-ghost use Rattle.tf_value.specs.Tree.{map, tree_of, items_view, entries_view, IsSorted, AreSorted};
-ghost use Rattle.tf_value.specs.Known.{known, known_items, known_entries};
-ghost use Rattle.tf_value.specs.Measure.{weight, weight_of_items, weight_of_entries, depth, depth_of_items, depth_of_entries, IsWithinLimits};
+ghost use Rattle.tf_value_data.specs.Stored.{MayBeStored};
+ghost use Rattle.tf_value_data.specs.Tree.{map, tree_of, items_view, entries_view, IsSorted, AreSorted};
+ghost use Rattle.tf_value_data.specs.Known.{known, known_items, known_entries};
+ghost use Rattle.tf_value_data.specs.Measure.{weight, weight_of_items, weight_of_entries, depth, depth_of_items, depth_of_entries, IsWithinLimits};
 ghost use Rattle.tf_value_json.specs.Json.{IsUnread, value_from, tree_from, items_from, entries_from};
 
 use crate::fault::JsonFault;
 use serde_json::{Map, Value as Json};
 use std::alloc::{AllocError, Global};
 use std::collections::BTreeMap;
-use tf_value::{MAX_DEPTH, MAX_WEIGHT, Value};
+use tf_value_data::{MAX_DEPTH, MAX_WEIGHT, Value};
 
 /// The value without sets that a JSON tree is the form of. Refused `NotWhole` exactly where it is no value's form, since a
 /// number in it isn't held as a whole number of 64 bits with a sign (`1.0`, `1e3`, `-0`, 2^63); else `TooLarge`

@@ -4,12 +4,12 @@ ghost use Rattle.serde.specs.Event.{Logs};
 ghost use Rattle.serde_json.specs.Data.{array, object};
 ghost use Rattle.serde_json.specs.Events.{SendsValue, number_event};
 ghost use Rattle.serde_json.specs.Find.{of_integer};
-ghost use Rattle.tf_value.specs.Tree.{tree_of, items_view, entries_view, texts_view};
+ghost use Rattle.tf_value_data.specs.Tree.{tree_of, items_view, entries_view, texts_view};
 ghost use Rattle.tf_value_json.specs.Json.{value_data, items_data, entries_data, texts_data};
 
 use serde::{Described, Serialize, Serializer};
 use std::collections::{BTreeMap, BTreeSet};
-use tf_value::Value;
+use tf_value_data::Value;
 
 /// A value that is written as its JSON form, with null where a part is unknown: callers who must not lose that ask
 /// `is_known` first. An error is one of the serializer's, and no contract says when it comes.

@@ -1,13 +1,13 @@
 ghost use Rattle.std.specs.Prelude.{◌≡◌, IfOk, IfErr, OnOk};
 ghost use Rattle.serde_json.specs.View.{view, items_view as json_items, members_view};
-ghost use Rattle.tf_value.specs.Tree.{map, IsHeld, AreHeld, AreHeldEntries, tree_of, items_view, entries_view, texts_view};
+ghost use Rattle.tf_value_data.specs.Tree.{map, IsHeld, AreHeld, AreHeldEntries, tree_of, items_view, entries_view, texts_view};
 ghost use Rattle.tf_value_json.specs.Json.{IsJson, IsObject, IsUnwritten, value_data, items_data, entries_data, texts_data};
 
 use crate::fault::JsonFault;
 use serde_json::{Map, Number, Value as Json};
 use std::alloc::{AllocError, Global};
 use std::collections::{BTreeMap, BTreeSet};
-use tf_value::{Value, entries_are_known, is_known};
+use tf_value_data::{Value, entries_are_known, is_known};
 
 /// The JSON form of a value. Refused `UnknownInside` exactly where a part of the value is unknown, else only
 /// where there is no memory.

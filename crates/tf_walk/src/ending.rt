@@ -10,7 +10,7 @@ use crate::fitting::demand_fit;
 use std::alloc::Global;
 use std::sync::Wait;
 use tf_config_names::Declarations;
-use tf_expand::{Module, ModuleParts};
+use tf_expand_keys::{Module, ModuleParts};
 use tf_plan_data::Plan;
 use tf_provider::{Journal, Provider};
 use tf_walk_action::ActionResult;

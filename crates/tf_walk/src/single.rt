@@ -9,7 +9,7 @@ ghost use Rattle.tf_walk.specs.Prepared.{IsPrepared};
 use crate::prepared::{Prepared, prepare};
 use std::alloc::{AllocError, Global};
 use tf_config_refusal::Refusal;
-use tf_expand::{Module, ModuleParts};
+use tf_expand_keys::{Module, ModuleParts};
 use tf_plan_data::{Plan, Planned};
 use tf_provider::Provider;
 use tf_walk_action::Stop;

@@ -7,11 +7,11 @@ use Rattle.tf_plan_object.proofs.Named.{instances_named}
 use Rattle.tf_plan_object.specs.Instance.{InstanceFaultView, instance_of}
 use Rattle.tf_plan_object.specs.declared.instance.InstanceFault.{InstanceFault}
 use Rattle.tf_config_data.specs.Names.{NameView, directly_before}
-use Rattle.tf_expand.proofs.Places.{names_stay}
-use Rattle.tf_expand.specs.StandingLaws.{ResolvedNamesAreOne, ResolvedNamesExist}
-use Rattle.tf_expand.specs.InstanceKeys.{InstanceKeysView}
-use Rattle.tf_expand.specs.Stages.{applying}
-use Rattle.tf_expand.specs.Resolved.{environment, rule}
+use Rattle.tf_expand_keys.proofs.Places.{names_stay}
+use Rattle.tf_expand_keys.specs.StandingLaws.{ResolvedNamesAreOne, ResolvedNamesExist}
+use Rattle.tf_expand_keys.specs.InstanceKeys.{InstanceKeysView}
+use Rattle.tf_expand_keys.specs.Stages.{applying}
+use Rattle.tf_expand_keys.specs.Resolved.{environment, rule}
 use Rattle.tf_graph.proofs.Solving.{solution-exists, solution-unique}
 use Rattle.tf_graph.specs.Solutions.{Ranked}
 use Rattle.tf_plan_data.specs.Action.{ActionView}
@@ -21,8 +21,8 @@ use Rattle.tf_provider_protocol.specs.Meaning.{Asked, Meaning, schema_in}
 use Rattle.tf_provider_protocol.specs.Schema.{SchemaView}
 use Rattle.tf_provider_protocol.specs.Verdict.{has_attributes}
 use Rattle.tf_walk_action.specs.Requests.{IsRequest}
-use Rattle.tf_value.specs.Tree.{Tree, tree_of}
-use Rattle.tf_value.specs.declared.value.Value.{Value}
+use Rattle.tf_value_data.specs.Tree.{Tree, tree_of}
+use Rattle.tf_value_data.specs.declared.value.Value.{Value}
 use Rattle.tf_walk_action.proofs.RequestsExist.{requests_exist}
 use Rattle.tf_walk_action.specs.Asked.{asked_for}
 use Rattle.tf_walk_action.specs.Outcome.{ActionResultView, skipped, Requests, AreRequests, call_with, comes_of}

@@ -8,7 +8,7 @@ use Rattle.tf_config_address.specs.ObjectId.{InstanceKeyView}
 use Rattle.tf_config_data.specs.Names.{NameView, meant_at}
 use Rattle.tf_graph.specs.Solutions.{seen_by}
 use Rattle.tf_state_data.specs.State.{StateView}
-use Rattle.tf_value.specs.Tree.{Tree, null}
+use Rattle.tf_value_data.specs.Tree.{Tree, null}
 use Rattle.tf_walk_action.specs.ActionResult.{ActionResultView}
 use Rattle.tf_walk_action.specs.Objects.{is_of, object_of, objects_seen, prior_object}
 

@@ -10,17 +10,17 @@ use Rattle.tf_provider_protocol.specs.Schema.{SchemaView}
 use Rattle.tf_expr_syntax.specs.ExprNames.{named_below}
 use Rattle.tf_expr_syntax.specs.ExprTree as expr
 use Rattle.tf_expr_syntax.specs.TemplateNames.{Pair}
-use Rattle.tf_value.specs.Tree.{Tree, Entries}
-use Rattle.tf_value.specs.declared.value.Value.{Value}
+use Rattle.tf_value_data.specs.Tree.{Tree, Entries}
+use Rattle.tf_value_data.specs.declared.value.Value.{Value}
 use Rattle.tf_expr_eval.proofs.Locality.{expressions_local}
 use Rattle.tf_expr_eval.specs.Environment.{Environment}
 use Rattle.tf_expr_eval.specs.Locality.{AgreeOn}
 use Rattle.tf_expr_eval.specs.Meaning.{and_then}
-use Rattle.tf_expand.proofs.Seen.{agree_on}
-use Rattle.tf_expand.specs.Instance.{bound, instance_constants}
-use Rattle.tf_expand.specs.InstanceKeys.{InstanceKeysView}
-use Rattle.tf_expand.specs.Stages.{applying}
-use Rattle.tf_expand.specs.Resolved.{ResolvedView, AreResolvedNames, environment}
+use Rattle.tf_expand_keys.proofs.Seen.{agree_on}
+use Rattle.tf_expand_keys.specs.Instance.{bound, instance_constants}
+use Rattle.tf_expand_keys.specs.InstanceKeys.{InstanceKeysView}
+use Rattle.tf_expand_keys.specs.Stages.{applying}
+use Rattle.tf_expand_keys.specs.Resolved.{ResolvedView, AreResolvedNames, environment}
 use Rattle.tf_plan_object.proofs.Locals.{instances_local}
 use Rattle.tf_plan_object.specs.Instance.{instance_object, instance_of, object_in}
 use Rattle.tf_plan_object.specs.declared.instance.InstanceFault.{InstanceFault}

@@ -5,13 +5,13 @@ use Rattle.tf_config_data.specs.Config.{BlockView}
 use Rattle.tf_config_data.specs.Names.{NameView, Meant, a_local, a_block, meant_at, block_refers}
 use Rattle.tf_expr_syntax.specs.declared.fault.EvalFault.TheVariants.{Missing}
 use Rattle.tf_provider_protocol.specs.Schema.{SchemaView}
-use Rattle.tf_value.specs.Tree.{Tree, Entries}
+use Rattle.tf_value_data.specs.Tree.{Tree, Entries}
 use Rattle.tf_expr_eval.proofs.Locality.{expressions_local}
-use Rattle.tf_expand.proofs.Places.{all_places}
-use Rattle.tf_expand.proofs.Seen.{agree_on}
-use Rattle.tf_expand.specs.StandingLaws.{ResolvedNamesAreOne, ResolvedNamesExist}
-use Rattle.tf_expand.specs.Stages.{applying}
-use Rattle.tf_expand.specs.Resolved.{ResolvedView, environment}
+use Rattle.tf_expand_keys.proofs.Places.{all_places}
+use Rattle.tf_expand_keys.proofs.Seen.{agree_on}
+use Rattle.tf_expand_keys.specs.StandingLaws.{ResolvedNamesAreOne, ResolvedNamesExist}
+use Rattle.tf_expand_keys.specs.Stages.{applying}
+use Rattle.tf_expand_keys.specs.Resolved.{ResolvedView, environment}
 use Rattle.tf_plan_object.proofs.Locals.{instances_local}
 use Rattle.tf_plan_object.specs.Instance.{InstanceFaultView, for_each_fault, instance_object}
 use Rattle.tf_plan_data.specs.Plan.{plan_names}

@@ -2,12 +2,12 @@
 use Rattle.std.proofs.Common.{◌≡◌, ℕ, List, sym, subst}
 use Rattle.tf_config_address.specs.ObjectId.{InstanceKeyView}
 use Rattle.tf_config_data.specs.Names.{NameView}
-use Rattle.tf_expand.specs.InstanceKeys.{InstanceKeysView}
-use Rattle.tf_expand.specs.Views.{resolved_names_of}
-use Rattle.tf_expand.specs.declared.resolved.Resolved.{Resolved}
+use Rattle.tf_expand_keys.specs.InstanceKeys.{InstanceKeysView}
+use Rattle.tf_expand_keys.specs.Views.{resolved_names_of}
+use Rattle.tf_expand_keys.specs.declared.resolved.Resolved.{Resolved}
 use Rattle.tf_plan_data.specs.Plan.{PlanView, plan_names}
 use Rattle.tf_walk_names.specs.Resolving.{AreResolvedSoFar}
-use Rattle.tf_value.specs.Tree.{Tree}
+use Rattle.tf_value_data.specs.Tree.{Tree}
 use Rattle.tf_walk_action.specs.SoFar.{ResolvedSoFar}
 
 module _ (plan : PlanView) (names : List NameView) (shapes : ℕ → InstanceKeysView) (objects : ℕ → InstanceKeyView → Tree) (kept : List Resolved) (named : names ≡ plan_names plan) (shaped : shapes ≡ plan.shapes) where

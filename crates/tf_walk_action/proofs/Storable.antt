@@ -4,12 +4,12 @@ use Rattle.std.specs.Prelude.{nat_le, IfSome, IsSome}
 use Rattle.tf_plan_object.specs.Bounded.{each_may_be_planned, has_planned_attributes}
 use Rattle.tf_provider_protocol.specs.declared.request.Op.{Op}
 use Rattle.tf_provider_protocol.specs.declared.request.Op.TheVariants.{Create}
-use Rattle.tf_value.proofs.Conjunction.{and-first, and-second, and-both}
-use Rattle.tf_value.proofs.WithNulls.{nulls-known, nulls-measure, nulls-no_set}
-use Rattle.tf_value.specs.Measure.{max_weight, max_depth}
-use Rattle.tf_value.specs.Nulls.{with_nulls, entries_with_nulls}
-use Rattle.tf_value.specs.Stored.{each_may_be_stored, may_be_planned}
-use Rattle.tf_value.specs.Tree.{Tree, map, Entries, no_entries, entry}
+use Rattle.tf_value_data.proofs.Conjunction.{and-first, and-second, and-both}
+use Rattle.tf_value_data.proofs.WithNulls.{nulls-known, nulls-measure, nulls-no_set}
+use Rattle.tf_value_data.specs.Measure.{max_weight, max_depth}
+use Rattle.tf_value_data.specs.Nulls.{with_nulls, entries_with_nulls}
+use Rattle.tf_value_data.specs.Stored.{each_may_be_stored, may_be_planned}
+use Rattle.tf_value_data.specs.Tree.{Tree, map, Entries, no_entries, entry}
 use Rattle.tf_walk_action.specs.Storable.{asks_planned, has_stored_attributes}
 
 nulls-stored : (es : Entries) → each_may_be_planned es ≡ true → each_may_be_stored (entries_with_nulls es) ≡ true

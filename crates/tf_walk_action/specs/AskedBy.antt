@@ -5,7 +5,7 @@ use Rattle.tf_plan_object.specs.Instance.{InstanceFaultView, instance_fault_of}
 use Rattle.tf_plan_data.specs.Address.{address_text}
 use Rattle.tf_provider_protocol.specs.Meaning.{Asked, asked}
 use Rattle.tf_provider_protocol.specs.declared.request.Op.{Op}
-use Rattle.tf_value.specs.Tree.{Tree}
+use Rattle.tf_value_data.specs.Tree.{Tree}
 use Rattle.tf_walk_action.specs.declared.prepared_call.PreparedCall.{PreparedCall}
 use Rattle.tf_walk_action.specs.declared.action_result.Faulted.{Faulted}
 

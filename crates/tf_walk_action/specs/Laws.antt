@@ -7,7 +7,7 @@ use Rattle.tf_graph.specs.Solutions.{Ranked}
 use Rattle.tf_plan_data.specs.Plan.{PlanView, plan_names}
 use Rattle.tf_provider_protocol.specs.Schema.{SchemaView}
 use Rattle.tf_walk_names.specs.Resolving.{is_resource}
-use Rattle.tf_value.specs.Tree.{Tree}
+use Rattle.tf_value_data.specs.Tree.{Tree}
 use Rattle.tf_walk_action.specs.Asked.{Requests, AreRequests}
 
 -- Where no name of a plan's configuration needs itself, there are requests.

@@ -9,7 +9,7 @@ use Rattle.tf_config_data.specs.Names.{NameView, Meant, a_block, meant_at}
 use Rattle.tf_plan_data.specs.Fits.{is_apply}
 use Rattle.tf_provider_protocol.specs.Meaning.{object}
 use Rattle.tf_state_data.specs.State.{StateView, record_in}
-use Rattle.tf_value.specs.Tree.{Tree, null}
+use Rattle.tf_value_data.specs.Tree.{Tree, null}
 use Rattle.tf_walk_action.specs.ActionResult.{ActionResultView, called}
 
 -- the object that a provider answered to an action; null where there is none

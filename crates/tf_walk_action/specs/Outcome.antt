@@ -11,7 +11,7 @@ use Rattle.tf_plan_data.specs.Plan.{PlanView, plan_names}
 use Rattle.tf_provider_protocol.specs.Meaning.{Asked, Meaning, first_with, schema_in}
 use Rattle.tf_provider_protocol.specs.Verdict.{verdict_on}
 pub use Rattle.tf_provider_protocol.specs.Verdict.{is_good_verdict}
-use Rattle.tf_value.specs.Tree.{Tree}
+use Rattle.tf_value_data.specs.Tree.{Tree}
 pub use Rattle.tf_walk_action.specs.Asked.{AreRequests, Requests, op_of}
 use Rattle.tf_walk_action.specs.Asked.{asked_for}
 pub use Rattle.tf_walk_action.specs.ActionResult.{ActionResultView, skipped, excused, faulted, called, excuse_in, is_faulted, is_good}

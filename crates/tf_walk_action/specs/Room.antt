@@ -1,8 +1,8 @@
 -- What is had before a call, so that what comes of it is reported without taking memory.
 use Rattle.std.specs.Prelude.{ℕ, ◌+◌, Bool, true, ◌&&◌, nat_le, length, Option, Some}
 use Rattle.std.specs.List.{list_all}
-use Rattle.tf_value.specs.Tree.{keys_of}
-use Rattle.tf_value.specs.Tree as tree
+use Rattle.tf_value_data.specs.Tree.{keys_of}
+use Rattle.tf_value_data.specs.Tree as tree
 
 -- `contradicts NAME` has room, for each name
 abbrev pub names_fit : ℕ → Option tree.Tree → Bool

@@ -1,11 +1,11 @@
 -- What names stand for so far, while an action's request is made.
 use Rattle.std.specs.Prelude.{ℕ, List}
 use Rattle.tf_config_address.specs.ObjectId.{InstanceKeyView}
-use Rattle.tf_expand.specs.Views.{resolved_names_of}
-use Rattle.tf_expand.specs.declared.resolved.Resolved.{Resolved}
+use Rattle.tf_expand_keys.specs.Views.{resolved_names_of}
+use Rattle.tf_expand_keys.specs.declared.resolved.Resolved.{Resolved}
 use Rattle.tf_plan_data.specs.Plan.{PlanView, plan_names}
 use Rattle.tf_walk_names.specs.Resolving.{AreResolvedSoFar}
-use Rattle.tf_value.specs.Tree.{Tree}
+use Rattle.tf_value_data.specs.Tree.{Tree}
 
 -- What stands in the list, by place, is what the names of a plan's configuration stand for where instances stand for these
 -- objects. Where nothing stands nothing is said.

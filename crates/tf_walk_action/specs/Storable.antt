@@ -3,8 +3,8 @@ use Rattle.std.specs.Prelude.{Bool, true, false, Option, Some}
 use Rattle.tf_plan_object.specs.Bounded.{has_planned_attributes}
 use Rattle.tf_provider_protocol.specs.declared.request.Op.{Op}
 use Rattle.tf_provider_protocol.specs.declared.request.Op.TheVariants.{Create, Update, Destroy}
-use Rattle.tf_value.specs.Stored.{each_may_be_stored}
-use Rattle.tf_value.specs.Tree.{Tree, map}
+use Rattle.tf_value_data.specs.Stored.{each_may_be_stored}
+use Rattle.tf_value_data.specs.Tree.{Tree, map}
 
 -- an object has attributes each of which may be stored
 abbrev pub has_stored_attributes : Tree → Bool

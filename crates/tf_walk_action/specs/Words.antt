@@ -1,6 +1,6 @@
 -- What contracts of the crates above cite of this crate and of those below, from one place.
 pub use Rattle.tf_config_data.specs.Words.{config_of, instance_key_of, addr_of, meant_at, names_of}
-pub use Rattle.tf_expand.specs.Words.{entries_view, has, IsAcyclic, IsDependence, IsTable, names_in, seen_by, tree_of, with_nulls}
+pub use Rattle.tf_expand_keys.specs.Words.{entries_view, has, IsAcyclic, IsDependence, IsTable, names_in, seen_by, tree_of, with_nulls}
 pub use Rattle.tf_plan_data.specs.Words.{action_of, AreServed, deposed_key, FitsTogether, is_apply, IsDeclared, IsOfBlock, IsServedBy, needs_in, plan_names, plan_of, state_of, step_of}
 pub use Rattle.tf_plan_data.specs.Action.{prior_of}
 pub use Rattle.tf_config_address.specs.ResourceAddr.{addr_text}
@@ -26,4 +26,4 @@ pub use Rattle.tf_provider.specs.Call.{IsServed}
 pub use Rattle.tf_state_data.specs.Record.{record_of}
 pub use Rattle.tf_state_data.specs.Resource.{resource_of}
 pub use Rattle.tf_state_data.specs.State.{outputs_of}
-pub use Rattle.tf_value.specs.Tree.{keys_of}
+pub use Rattle.tf_value_data.specs.Tree.{keys_of}

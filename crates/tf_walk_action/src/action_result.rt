@@ -5,7 +5,7 @@ ghost use Rattle.tf_plan_object.specs.Instance.{instance_fault_of};
 ghost use Rattle.tf_walk_action.specs.Storable.{asks_planned};
 ghost use Rattle.tf_walk_action.specs.Message.{fault_message};
 ghost use Rattle.tf_walk_action.specs.Room.{message_fits};
-ghost use Rattle.tf_value.specs.Tree.{tree_of};
+ghost use Rattle.tf_value_data.specs.Tree.{tree_of};
 
 use crate::not_good::NotGood;
 use crate::stop::Stopped;

@@ -13,7 +13,7 @@ use tf_config_names::{Declaration, Declarations};
 use tf_plan_data::Action;
 use tf_provider_protocol::Reply;
 use tf_state_data::State;
-use tf_value::{Value, copy};
+use tf_value_data::{Value, copy};
 use tf_walk_names::Results;
 
 /// What instances stand for after some actions of a plan: for the objects that providers answered to those, and else for

@@ -14,11 +14,11 @@ use crate::prepared_call::PreparedCall;
 use crate::rooms::{least_room, reserve_message};
 use std::alloc::{AllocError, Global};
 use tf_config_names::Declarations;
-use tf_expand::Resolved;
+use tf_expand_keys::Resolved;
 use tf_plan_data::{Action, Plan, Step, address_text};
 use tf_provider::{Op, Provider, Request, Schema, schema_for};
 use tf_state_data::Object;
-use tf_value::Value;
+use tf_value_data::Value;
 use tf_walk_names::Results;
 
 /// What is asked for an action of a plan by the schema of the first provider that has its type, or what is wrong with

@@ -7,11 +7,11 @@ ghost use Rattle.tf_walk_action.specs.Words.{action_of, AreRequests, config_of, 
 use crate::requests::request;
 use std::alloc::{AllocError, Global};
 use tf_config_names::{Declaration, Declarations};
-use tf_expand::{Module, ModuleParts, Resolved};
+use tf_expand_keys::{Module, ModuleParts, Resolved};
 use tf_plan_data::{Action, Plan};
 use tf_plan_object::{InstanceFault, kept_object};
 use tf_provider_protocol::Schema;
-use tf_value::Value;
+use tf_value_data::Value;
 use tf_walk_names::Results;
 
 /// What an object is asked for by: the action of a plan, the names of its configuration, the schema of the action's type,

@@ -1,7 +1,7 @@
 //! What is had before a call: the request, and room for a message about its reply.
 
 ghost use Rattle.std.specs.Prelude.{◌≡◌, [], true, option_map, string_bytes, string_capacity};
-ghost use Rattle.tf_value.specs.Tree.{tree_of};
+ghost use Rattle.tf_value_data.specs.Tree.{tree_of};
 ghost use Rattle.tf_walk_action.specs.Storable.{asks_planned};
 ghost use Rattle.tf_walk_action.specs.Room.{message_fits};
 

@@ -2,7 +2,7 @@
 
 ghost use Rattle.std.specs.Prelude.{◌≡◌, [], true, option_map, string_bytes, string_capacity};
 ghost use Rattle.tf_provider_protocol.specs.Meaning.{asked, answered};
-ghost use Rattle.tf_value.specs.Tree.{tree_of};
+ghost use Rattle.tf_value_data.specs.Tree.{tree_of};
 ghost use Rattle.tf_graph.specs.Digraph.{Digraph};
 ghost use Rattle.tf_walk_action.specs.ResultViews.{HasCause, result_by, action_result_of, ended_action};
 ghost use Rattle.tf_walk_action.specs.Storable.{asks_planned};

@@ -1,7 +1,7 @@
 //! What is asked of a provider for an instance.
 
 ghost use Rattle.std.specs.Prelude.{◌≡◌, true, IfOk};
-ghost use Rattle.tf_expand.specs.Words.{entries_view, instance_key_of, meant_at, names_in, shapes_of, resolved_names_of, tree_of};
+ghost use Rattle.tf_expand_keys.specs.Words.{entries_view, instance_key_of, meant_at, names_in, shapes_of, resolved_names_of, tree_of};
 ghost use Rattle.tf_plan_object.specs.Bounded.{has_planned_attributes};
 ghost use Rattle.tf_plan_object.specs.Instance.{instance_of};
 ghost use Rattle.tf_walk_action.specs.Requests.{IsRequest};
@@ -10,10 +10,10 @@ ghost use Rattle.tf_walk_names.specs.Resolving.{AreResolvedSoFar, is_resource};
 use std::alloc::{AllocError, Global};
 use tf_config_address::InstanceKey;
 use tf_config_names::Declaration;
-use tf_expand::{InstanceKeys, Module, NamesScope, Resolved};
+use tf_expand_keys::{InstanceKeys, Module, NamesScope, Resolved};
 use tf_plan_object::{InstanceFault, plan_instance};
 use tf_provider_protocol::Schema;
-use tf_value::Value;
+use tf_value_data::Value;
 use tf_walk_names::{Results, add_resolved_names, named_for_instance};
 
 /// What is asked of a provider for the create of an instance of the resource at a place, or what is wrong with it: what

@@ -6,7 +6,7 @@ ghost use Rattle.tf_walk_action.specs.Words.{entries_view, keys_of, message_fits
 
 use std::alloc::{AllocError, Global};
 use std::collections::BTreeMap;
-use tf_value::Value;
+use tf_value_data::Value;
 
 /// An empty text with room for each message about a reply to a request for this object.
 pub(crate) fn reserve_message(alloc: Global, object: &Value) -> Result<String, AllocError>

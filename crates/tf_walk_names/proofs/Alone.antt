@@ -10,13 +10,13 @@ use Rattle.tf_config_data.specs.Names.{NameView, Meant, a_local, a_block, meant_
 use Rattle.tf_graph.proofs.Edges.{all_by_contained}
 use Rattle.tf_graph.proofs.Solving.{all_by_at}
 use Rattle.tf_graph.specs.Solutions.{Ranked}
-use Rattle.tf_value.specs.Tree.{Tree, Entries}
-use Rattle.tf_expand.proofs.Keeping.{earlier, stand_other, stand_same}
-use Rattle.tf_expand.specs.InstanceKeys.{InstanceKeysView}
-use Rattle.tf_expand.specs.Stages.{applying}
-use Rattle.tf_expand.specs.Resolved.{environment, stands_at}
-use Rattle.tf_expand.specs.Views.{resolved_of, resolved_names_of}
-use Rattle.tf_expand.specs.declared.resolved.Resolved.{Resolved}
+use Rattle.tf_value_data.specs.Tree.{Tree, Entries}
+use Rattle.tf_expand_keys.proofs.Keeping.{earlier, stand_other, stand_same}
+use Rattle.tf_expand_keys.specs.InstanceKeys.{InstanceKeysView}
+use Rattle.tf_expand_keys.specs.Stages.{applying}
+use Rattle.tf_expand_keys.specs.Resolved.{environment, stands_at}
+use Rattle.tf_expand_keys.specs.Views.{resolved_of, resolved_names_of}
+use Rattle.tf_expand_keys.specs.declared.resolved.Resolved.{Resolved}
 use Rattle.tf_walk_names.specs.Resolving.{AreResolvedSoFar, is_resource}
 use Rattle.tf_walk_names.specs.Wanted.{is_local}
 use Rattle.tf_walk_names.proofs.Answering.{meant_there, next_is, stands_there}

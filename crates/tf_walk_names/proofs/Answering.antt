@@ -9,16 +9,16 @@ use Rattle.tf_config_data.specs.Names.{NameView, Meant, a_local, a_block, meant_
 use Rattle.tf_graph.proofs.Edges.{all_by_contained}
 use Rattle.tf_graph.proofs.Solving.{all_by_at}
 use Rattle.tf_graph.specs.Solutions.{Ranked, seen_by}
-use Rattle.tf_value.specs.Tree.{Tree, Entries}
+use Rattle.tf_value_data.specs.Tree.{Tree, Entries}
 use Rattle.tf_expr_eval.proofs.Locality.{expressions_local}
 use Rattle.tf_expr_eval.specs.Environment.{Environment}
 use Rattle.tf_expr_eval.specs.Locality.{AgreeOn}
-use Rattle.tf_expand.proofs.Locals.{all_seen, applying_local}
-use Rattle.tf_expand.proofs.Places.{along, names_stay}
-use Rattle.tf_expand.proofs.Seen.{agree_on}
-use Rattle.tf_expand.specs.InstanceKeys.{InstanceKeysView, one, many, named, instance_keys, objects_at, collected}
-use Rattle.tf_expand.specs.Stages.{applying}
-use Rattle.tf_expand.specs.Resolved.{ResolvedView, AreResolvedNames, all_stand, environment, environment_at, stands_at, where_all}
+use Rattle.tf_expand_keys.proofs.Locals.{all_seen, applying_local}
+use Rattle.tf_expand_keys.proofs.Places.{along, names_stay}
+use Rattle.tf_expand_keys.proofs.Seen.{agree_on}
+use Rattle.tf_expand_keys.specs.InstanceKeys.{InstanceKeysView, one, many, named, instance_keys, objects_at, collected}
+use Rattle.tf_expand_keys.specs.Stages.{applying}
+use Rattle.tf_expand_keys.specs.Resolved.{ResolvedView, AreResolvedNames, all_stand, environment, environment_at, stands_at, where_all}
 use Rattle.tf_walk_names.specs.Wanted.{is_local}
 
 objects_there : (object : InstanceKeyView → Tree) (ks : List InstanceKeyView) → is_some (objects_at (λ key. Some (object key)) ks) ≡ true

@@ -11,14 +11,14 @@ use Rattle.tf_graph.proofs.Solving.{all_by_at, all_by_both, all_by_weaker}
 use Rattle.tf_graph.specs.NodeSet.{has}
 use Rattle.tf_graph.specs.Order.{IsInOrder}
 use Rattle.tf_graph.specs.Solutions.{Ranked, seen_by}
-use Rattle.tf_value.specs.Tree.{Tree, Entries}
-use Rattle.tf_expand.proofs.Keeping.{earlier, stand_other, stand_same}
-use Rattle.tf_expand.specs.InstanceKeys.{InstanceKeysView}
-use Rattle.tf_expand.specs.Stages.{applying}
-use Rattle.tf_expand.specs.Resolved.{ResolvedView, AreResolvedNames, all_stand, environment, stands_at}
-use Rattle.tf_expand.specs.Views.{resolved_of, resolved_names_of}
-use Rattle.tf_expand.specs.declared.resolved.Resolved.{Resolved}
-use Rattle.tf_expand.specs.declared.resolved.Resolved.TheVariants.{Nothing}
+use Rattle.tf_value_data.specs.Tree.{Tree, Entries}
+use Rattle.tf_expand_keys.proofs.Keeping.{earlier, stand_other, stand_same}
+use Rattle.tf_expand_keys.specs.InstanceKeys.{InstanceKeysView}
+use Rattle.tf_expand_keys.specs.Stages.{applying}
+use Rattle.tf_expand_keys.specs.Resolved.{ResolvedView, AreResolvedNames, all_stand, environment, stands_at}
+use Rattle.tf_expand_keys.specs.Views.{resolved_of, resolved_names_of}
+use Rattle.tf_expand_keys.specs.declared.resolved.Resolved.{Resolved}
+use Rattle.tf_expand_keys.specs.declared.resolved.Resolved.TheVariants.{Nothing}
 use Rattle.tf_walk_names.proofs.Answering.{meant_there, next_is, stands_there}
 use Rattle.tf_walk_names.specs.Resolving.{AreResolvedSoFar}
 use Rattle.tf_walk_names.specs.Wanted.{AreClosedForLocals, IsWanted, itself, is_local}

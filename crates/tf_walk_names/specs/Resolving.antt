@@ -5,13 +5,13 @@ use Rattle.tf_config_data.specs.Names.{NameView, Meant, a_block}
 use Rattle.tf_expr_operators.specs.Answer.{Answer, Answers}
 use Rattle.tf_expr_syntax.specs.declared.fault.EvalFault.{EvalFault}
 use Rattle.tf_expr_syntax.specs.ExprTree as expr
-use Rattle.tf_value.specs.Sets.{with_lists}
-use Rattle.tf_value.specs.Tree.{Tree, Entries}
-use Rattle.tf_value.specs.declared.value.Value.{Value}
+use Rattle.tf_value_data.specs.Sets.{with_lists}
+use Rattle.tf_value_data.specs.Tree.{Tree, Entries}
+use Rattle.tf_value_data.specs.declared.value.Value.{Value}
 use Rattle.tf_expr_eval.specs.ExprMeaning.{meaning}
-use Rattle.tf_expand.specs.InstanceKeys.{InstanceKeysView}
-use Rattle.tf_expand.specs.Stages.{applying}
-use Rattle.tf_expand.specs.Resolved.{ResolvedView, AreResolvedNames, environment}
+use Rattle.tf_expand_keys.specs.InstanceKeys.{InstanceKeysView}
+use Rattle.tf_expand_keys.specs.Stages.{applying}
+use Rattle.tf_expand_keys.specs.Resolved.{ResolvedView, AreResolvedNames, environment}
 
 -- whether what stands at a place is a resource
 abbrev pub is_resource : Option Meant → Bool

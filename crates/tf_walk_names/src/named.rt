@@ -1,7 +1,7 @@
 //! What the object of an instance is worked out from.
 
 ghost use Rattle.std.specs.Prelude.{◌≡◌, IfOk};
-ghost use Rattle.tf_expand.specs.Words.{block_at, ResourceAddrView, names_in, places, repetition_of};
+ghost use Rattle.tf_expand_keys.specs.Words.{block_at, ResourceAddrView, names_in, places, repetition_of};
 ghost use Rattle.tf_walk_names.specs.Wanted.{instance_names, named_in_for_each};
 
 use std::alloc::{AllocError, Global};

@@ -1,17 +1,17 @@
 //! What outputs are after an apply.
 
 ghost use Rattle.std.specs.Prelude.{IfOk};
-ghost use Rattle.tf_expand.specs.Words.{Answers, entries_view, meaning, names_in, shapes_of, resolved_names_of};
+ghost use Rattle.tf_expand_keys.specs.Words.{Answers, entries_view, meaning, names_in, shapes_of, resolved_names_of};
 ghost use Rattle.tf_expr_syntax.specs.ExprTree.{tree_of};
 ghost use Rattle.tf_walk_names.specs.Resolving.{AreResolvedSoFar, IsOutput, without_sets};
 
 use crate::results::Results;
 use crate::sharing::add_resolved_names;
 use std::alloc::{AllocError, Global};
-use tf_expand::{InstanceKeys, Module, NamesScope, Resolved};
+use tf_expand_keys::{InstanceKeys, Module, NamesScope, Resolved};
 use tf_expr_eval::{EvalFault, Scope, eval_expr};
 use tf_expr_syntax::Expr;
-use tf_value::{Value, with_lists};
+use tf_value_data::{Value, with_lists};
 
 /// What an output is after an apply, or the fault of its expression: what the expression means where resources stand
 /// for what their providers answered, with the list of its texts in place of each set. `shapes` says of the place of

@@ -2,15 +2,15 @@
 
 ghost use Rattle.std.specs.List.{AllByRecursion, list_all};
 ghost use Rattle.std.specs.Prelude.{◌≡◌, ◌<◌, ◌≤◌, ℕ, IfOk, MatchBool, OnErr, OnOk, true, is_some, length, set, Contains};
-ghost use Rattle.tf_expand.specs.Words.{applying, entries_view, environment, has, meant_at, names_in, order_in, shapes_of, resolved_of, resolved_names_of, stands_at};
-ghost use Rattle.tf_expand.specs.declared.resolved.Resolved.{Resolved as Stood};
+ghost use Rattle.tf_expand_keys.specs.Words.{applying, entries_view, environment, has, meant_at, names_in, order_in, shapes_of, resolved_of, resolved_names_of, stands_at};
+ghost use Rattle.tf_expand_keys.specs.declared.resolved.Resolved.{Resolved as Stood};
 ghost use Rattle.tf_walk_names.specs.Resolving.{AreResolvedSoFar, is_resource};
 ghost use Rattle.tf_walk_names.specs.Wanted.{AreClosedForLocals};
 
 use crate::results::{InstanceAnswers, Results};
 use crate::sharing::{is_missing, stands};
 use std::alloc::{AllocError, Global};
-use tf_expand::{ExpandedValues, InstanceKeys, Module, Resolved, resolved_at};
+use tf_expand_keys::{ExpandedValues, InstanceKeys, Module, Resolved, resolved_at};
 
 /// The names of a configuration in an apply, where resources stand for what their providers answered.
 #[derive(Drop)]

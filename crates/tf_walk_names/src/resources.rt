@@ -7,7 +7,7 @@ ghost use Rattle.tf_config_names.specs.Table.{declaration_of, names_in};
 ghost use Rattle.tf_walk_names.specs.Resolving.{is_resource};
 
 use tf_config_names::Declaration;
-use tf_expand::Module;
+use tf_expand_keys::Module;
 
 /// Whether a resource is at each of some places.
 pub(crate) fn are_resources(declared: &Module, places: &[usize]) -> bool

@@ -2,13 +2,13 @@
 
 ghost use Rattle.std.specs.Prelude.{◌≡◌, ℕ, IfOk, Some};
 ghost use Rattle.tf_config_address.specs.ObjectId.{InstanceKeyView, instance_key_of};
-ghost use Rattle.tf_value.specs.Tree.{Tree, tree_of};
+ghost use Rattle.tf_value_data.specs.Tree.{Tree, tree_of};
 
 use std::alloc::{AllocError, Global};
 use tf_config_address::InstanceKey;
-use tf_expand::{Objects, ResourceInScope};
+use tf_expand_keys::{Objects, ResourceInScope};
 use tf_expr_eval::Scope;
-use tf_value::Value;
+use tf_value_data::Value;
 
 /// The objects that providers answered for the instances of an apply. Only those of resources that what is worked out
 /// names, directly or through locals, are asked for; any value may stand for the others.

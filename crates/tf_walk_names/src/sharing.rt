@@ -2,7 +2,7 @@
 
 ghost use Rattle.std.specs.List.{AllByRecursion};
 ghost use Rattle.std.specs.Prelude.{◌≡◌, ◌<◌, ◌≤◌, ◌&&◌, ℕ, OnOk, true, is_some, length, not};
-ghost use Rattle.tf_expand.specs.Words.{entries_view, has, names_in, shapes_of, resolved_names_of};
+ghost use Rattle.tf_expand_keys.specs.Words.{entries_view, has, names_in, shapes_of, resolved_names_of};
 ghost use Rattle.tf_walk_names.specs.Resolving.{AreResolvedSoFar};
 
 use crate::resolved::RequestObjects;
@@ -10,7 +10,7 @@ use crate::resources::{are_resources, past_last};
 use crate::results::Results;
 use crate::wanted::wanted_by;
 use std::alloc::{AllocError, Global};
-use tf_expand::{InstanceKeys, Module, Resolved, all_stand};
+use tf_expand_keys::{InstanceKeys, Module, Resolved, all_stand};
 
 /// Adds what the names at some places stand for, and all that is wanted for them, to what names stand for so far. What
 /// stands already isn't worked out again. Where memory runs out, what was worked out by then stays.

@@ -2,12 +2,12 @@
 
 ghost use Rattle.std.specs.List.{AllByRecursion};
 ghost use Rattle.std.specs.Prelude.{◌≡◌, ◌<◌, ◌↔◌, ◌⊎◌, ℕ, IfOk, true, false, length, replicate, Contains};
-ghost use Rattle.tf_expand.specs.Words.{directly_before, has, meant_at, names_in};
+ghost use Rattle.tf_expand_keys.specs.Words.{directly_before, has, meant_at, names_in};
 ghost use Rattle.tf_walk_names.specs.Wanted.{IsWanted, is_local};
 
 use std::alloc::{AllocError, Global};
 use tf_config_names::Declaration;
-use tf_expand::{Module, mark, none_marked};
+use tf_expand_keys::{Module, mark, none_marked};
 
 /// For each place, whether the name there is wanted: it is at one of these places, or the expression of a wanted local
 /// names it.

@@ -12,9 +12,9 @@ use Rattle.std.specs.Ordering.{match_ordering}
 use Rattle.std.specs.declared.alloc.Global.{Global}
 use Rattle.tf_config_address.specs.ObjectId.{InstanceKeyView}
 use Rattle.tf_config_data.specs.Names.{NameView, places, directly_before}
-use Rattle.tf_expand.specs.InstanceKeys.{InstanceKeysView}
-use Rattle.tf_expand.specs.Stages.{applying}
-use Rattle.tf_expand.specs.Resolved.{ResolvedView, AreResolvedNames, environment, rule}
+use Rattle.tf_expand_keys.specs.InstanceKeys.{InstanceKeysView}
+use Rattle.tf_expand_keys.specs.Stages.{applying}
+use Rattle.tf_expand_keys.specs.Resolved.{ResolvedView, AreResolvedNames, environment, rule}
 use Rattle.tf_expr_eval.specs.ExprMeaning.{meaning}
 use Rattle.tf_graph.proofs.Solving.{solution-exists}
 use Rattle.tf_graph.specs.Solutions.{Ranked, seen_by}
@@ -30,14 +30,14 @@ use Rattle.tf_state_data.specs.State.{outputs_of}
 use Rattle.tf_state_data.specs.declared.object.Object.{Object}
 use Rattle.tf_expr_syntax.specs.ExprNames.{named_by}
 use Rattle.tf_expr_syntax.specs.ExprTree as expr
-use Rattle.tf_value.proofs.Tables.{table-put}
-use Rattle.tf_value.proofs.WithLists.{lists-no_set}
-use Rattle.tf_value.specs.Measure.{is_within}
-use Rattle.tf_value.specs.Nulls.{with_nulls}
-use Rattle.tf_value.specs.Sets.{has_no_set, with_lists}
-use Rattle.tf_value.specs.Stored.{EachMayBeStored, IsTable}
-use Rattle.tf_value.specs.Tree.{Tree, Entries, no_entries, entry, keys_of, put, tree_of}
-use Rattle.tf_value.specs.declared.value.Value.{Value}
+use Rattle.tf_value_data.proofs.Tables.{table-put}
+use Rattle.tf_value_data.proofs.WithLists.{lists-no_set}
+use Rattle.tf_value_data.specs.Measure.{is_within}
+use Rattle.tf_value_data.specs.Nulls.{with_nulls}
+use Rattle.tf_value_data.specs.Sets.{has_no_set, with_lists}
+use Rattle.tf_value_data.specs.Stored.{EachMayBeStored, IsTable}
+use Rattle.tf_value_data.specs.Tree.{Tree, Entries, no_entries, entry, keys_of, put, tree_of}
+use Rattle.tf_value_data.specs.declared.value.Value.{Value}
 
 outputs_of-match_ordering : (o : Ordering) (a b c : List (String Global × Object)) → outputs_of (match_ordering o a b c) ≡ match_ordering o (outputs_of a) (outputs_of b) (outputs_of c)
 outputs_of-match_ordering Less a b c = refl

@@ -17,9 +17,9 @@ use Rattle.tf_state_data.specs.declared.object.Object.{Object}
 use Rattle.tf_expr_syntax.specs.ExprTree as expr
 use Rattle.tf_expr_syntax.specs.ExprTree.{entries_view}
 use Rattle.tf_expr_syntax.specs.declared.expr.Expr.{Expr}
-use Rattle.tf_value.proofs.Views.{below_middle}
-use Rattle.tf_value.specs.Stored.{EachMayBeStored, IsTable, MayBeStored}
-use Rattle.tf_value.specs.Tree.{Tree, Entries, no_entries, entry, put, tree_of, keys_of as tree_keys}
+use Rattle.tf_value_data.proofs.Views.{below_middle}
+use Rattle.tf_value_data.specs.Stored.{EachMayBeStored, IsTable, MayBeStored}
+use Rattle.tf_value_data.specs.Tree.{Tree, Entries, no_entries, entry, put, tree_of, keys_of as tree_keys}
 
 abbrev pub Output : Type 0
 Output = String Global × Object

@@ -3,8 +3,8 @@ use Rattle.std.proofs.Common.{◌≡◌, ◌<◌, ℕ, zero, suc, Bool, true, fa
 use Rattle.std.specs.List.{AllByRecursion}
 use Rattle.tf_config_address.specs.ObjectId.{InstanceKeyView}
 use Rattle.tf_config_data.specs.Names.{NameView, Meant, a_local, a_block, meant_at, directly_before, places}
-use Rattle.tf_expand.proofs.Places.{along, all_places, names_stay}
-use Rattle.tf_expand.specs.InstanceKeys.{InstanceKeysView}
+use Rattle.tf_expand_keys.proofs.Places.{along, all_places, names_stay}
+use Rattle.tf_expand_keys.specs.InstanceKeys.{InstanceKeysView}
 use Rattle.tf_graph.proofs.Edges.{all_by_contained}
 use Rattle.tf_graph.proofs.Solving.{all_by_at}
 use Rattle.tf_graph.specs.Solutions.{Ranked, seen_by}
@@ -13,8 +13,8 @@ use Rattle.tf_walk_outputs.specs.Outputs.{OutputResultView, not_evaluated, excus
 use Rattle.tf_walk_outputs.specs.Settled.{AreSettled, all_settled, settled_as, names_are_settled}
 use Rattle.tf_expr_syntax.specs.ExprNames.{named_by}
 use Rattle.tf_expr_syntax.specs.ExprTree as expr
-use Rattle.tf_value.proofs.Conjunction.{and-both, and-first, and-second}
-use Rattle.tf_value.specs.Tree.{Tree, Entries}
+use Rattle.tf_value_data.proofs.Conjunction.{and-both, and-first, and-second}
+use Rattle.tf_value_data.specs.Tree.{Tree, Entries}
 
 each_settled : (settled : ℕ → Bool) (xs : List ℕ) → all_settled (seen_by settled xs) ≡ true → AllByRecursion (λ a. settled a ≡ true) xs
 each_settled settled [] h = tt

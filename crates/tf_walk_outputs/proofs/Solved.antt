@@ -5,8 +5,8 @@ use Rattle.std.proofs.lemmas.List.{get_or-set_same, get_or-set_other, length-set
 use Rattle.std.specs.Prelude.{Contains, slice_index}
 use Rattle.std.specs.List.{AllByRecursion}
 use Rattle.tf_config_data.specs.Names.{NameView, directly_before}
-use Rattle.tf_expand.proofs.Keeping.{earlier}
-use Rattle.tf_expand.proofs.Places.{names_stay}
+use Rattle.tf_expand_keys.proofs.Keeping.{earlier}
+use Rattle.tf_expand_keys.proofs.Places.{names_stay}
 use Rattle.tf_graph.specs.NodeSet.{has}
 use Rattle.tf_graph.specs.Order.{IsInOrder}
 use Rattle.tf_graph.specs.Solutions.{Ranked, seen_by}

@@ -4,8 +4,8 @@ use Rattle.tf_walk_outputs.specs.Outputs.{OutputResultView, not_evaluated, excus
 use Rattle.tf_walk_outputs.specs.declared.ends.EvaluatedOutput.{EvaluatedOutput}
 use Rattle.tf_walk_outputs.specs.declared.ends.EvaluatedOutput.TheVariants.{NotEvaluated, NoMemory, Faulted, Valued}
 use Rattle.tf_walk_outputs.specs.declared.ends.OutputResult.{OutputResult}
-use Rattle.tf_value.specs.Stored.{MayBeStored}
-use Rattle.tf_value.specs.Tree.{Entries, tree_of}
+use Rattle.tf_value_data.specs.Stored.{MayBeStored}
+use Rattle.tf_value_data.specs.Tree.{Entries, tree_of}
 
 -- what came of an output, without where its value lies in memory
 abbrev pub done_of : EvaluatedOutput → OutputResultView

@@ -3,13 +3,13 @@ use Rattle.std.specs.Prelude.{◌≡◌, ◌<◌, ◌↔◌, ℕ, Bool, true, Li
 use Rattle.tf_config_address.specs.ObjectId.{InstanceKeyView}
 use Rattle.tf_config_data.specs.Config.{BlockView}
 use Rattle.tf_config_data.specs.Names.{NameView, a_local, a_block, meant_at, directly_before, places}
-use Rattle.tf_expand.specs.InstanceKeys.{InstanceKeysView}
+use Rattle.tf_expand_keys.specs.InstanceKeys.{InstanceKeysView}
 use Rattle.tf_graph.specs.Solutions.{Ranked}
 use Rattle.tf_walk_outputs.specs.Outputs.{OutputResultView, excused, IsOutputDone}
 use Rattle.tf_walk_outputs.specs.Settled.{AreSettled, names_are_settled}
 use Rattle.tf_expr_syntax.specs.ExprNames.{named_by}
 use Rattle.tf_expr_syntax.specs.ExprTree as expr
-use Rattle.tf_value.specs.Tree.{Tree, Entries}
+use Rattle.tf_value_data.specs.Tree.{Tree, Entries}
 
 -- Where no name needs itself, the settled names are determined.
 abbrev pub SettledAreOne : Type 0

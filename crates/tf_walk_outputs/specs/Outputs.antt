@@ -3,9 +3,9 @@ use Rattle.std.specs.Prelude.{◌≡◌, ◌||◌, ℕ, Bool, true, false, if◌
 use Rattle.std.specs.Str.{bytes_eq}
 use Rattle.tf_config_address.specs.ObjectId.{InstanceKeyView}
 use Rattle.tf_config_data.specs.Names.{NameView}
-use Rattle.tf_expand.specs.InstanceKeys.{InstanceKeysView}
-use Rattle.tf_expand.specs.Stages.{applying}
-use Rattle.tf_expand.specs.Resolved.{ResolvedView, AreResolvedNames, environment}
+use Rattle.tf_expand_keys.specs.InstanceKeys.{InstanceKeysView}
+use Rattle.tf_expand_keys.specs.Stages.{applying}
+use Rattle.tf_expand_keys.specs.Resolved.{ResolvedView, AreResolvedNames, environment}
 use Rattle.tf_expr_eval.specs.ExprMeaning.{meaning}
 use Rattle.tf_expr_operators.specs.Answer.{Answer}
 use Rattle.tf_expr_syntax.specs.declared.fault.EvalFault.{EvalFault}
@@ -15,9 +15,9 @@ use Rattle.tf_walk_outputs.specs.declared.ends.OutputResult.{OutputResult}
 use Rattle.tf_walk_outputs.specs.declared.ends.OutputResult.TheVariants.{NotEvaluated, NoMemory, Faulted, Valued}
 use Rattle.tf_walk_names.specs.Resolving.{without_sets}
 use Rattle.tf_expr_syntax.specs.ExprTree as expr
-use Rattle.tf_value.specs.Measure.{is_within}
-use Rattle.tf_value.specs.Nulls.{with_nulls}
-use Rattle.tf_value.specs.Tree.{Tree, null, Entries, no_entries, entry, put}
+use Rattle.tf_value_data.specs.Measure.{is_within}
+use Rattle.tf_value_data.specs.Nulls.{with_nulls}
+use Rattle.tf_value_data.specs.Tree.{Tree, null, Entries, no_entries, entry, put}
 
 -- What comes of an output: it isn't evaluated anew, memory is refused for it, it has a value, or a fault.
 pub data OutputResultView : Type 0 where

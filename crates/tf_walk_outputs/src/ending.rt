@@ -1,7 +1,7 @@
 //! Outputs are worked out after an apply.
 
 ghost use Rattle.std.specs.Prelude.{◌≡◌, ◌≤◌, [], IfOk, Ok, length, true, vec_capacity};
-ghost use Rattle.tf_expand.specs.Words.{entries_view, has, has_no_set, IsTable, named_by, names_in, shapes_of, resolved_names_of, tree_of};
+ghost use Rattle.tf_expand_keys.specs.Words.{entries_view, has, has_no_set, IsTable, named_by, names_in, shapes_of, resolved_names_of, tree_of};
 ghost use Rattle.tf_config_data.specs.Names.{places as places_of};
 ghost use Rattle.tf_walk_outputs.specs.Keeping.{IsSameOrExcused, MayBeSaved, done_of};
 ghost use Rattle.tf_walk_outputs.specs.Outputs.{AreOutputsEnded, IsOutputDone, done_with};
@@ -16,11 +16,11 @@ use crate::output_buffers::OutputBuffers;
 use crate::settled::all_settled;
 use std::alloc::{AllocError, Global};
 use std::collections::BTreeMap;
-use tf_expand::{InstanceKeys, Module, Resolved};
+use tf_expand_keys::{InstanceKeys, Module, Resolved};
 use tf_expr_eval::EvalFault;
 use tf_expr_syntax::Expr;
 use tf_state_data::Object;
-use tf_value::{Value, is_within_limits, with_nulls};
+use tf_value_data::{Value, is_within_limits, with_nulls};
 use tf_walk_names::{Results, output_value};
 
 /// What comes of all outputs: their values by name, without those that are null, and, in `ends`, what is told of each,

@@ -4,7 +4,7 @@ ghost use Rattle.std.specs.Prelude.{◌≡◌, IfOk, OnOk, if◌then◌else◌, 
 ghost use Rattle.tf_walk_outputs.specs.Keeping.{IsKept, done_of};
 ghost use Rattle.tf_walk_outputs.specs.Outputs.{is_declared, is_null as is_a_null, kept_entries, valued};
 ghost use Rattle.tf_state_data.specs.State.{outputs_of};
-ghost use Rattle.tf_expand.specs.Words.{IsTable, put, tree_of};
+ghost use Rattle.tf_expand_keys.specs.Words.{IsTable, put, tree_of};
 ghost use Rattle.tf_expr_syntax.specs.ExprTree.{entries_view};
 
 use crate::ends::{EvaluatedOutput, OutputResult};
@@ -12,7 +12,7 @@ use std::alloc::{AllocError, Global};
 use std::collections::BTreeMap;
 use tf_expr_syntax::Expr;
 use tf_state_data::Object;
-use tf_value::Value;
+use tf_value_data::Value;
 
 /// Puts an output's value under its name, in place of what was there, where it has one, and tells what came of the output.
 /// Where there is no memory for the entry, that is told.

@@ -2,7 +2,7 @@
 
 ghost use Rattle.std.specs.List.{AllByRecursion};
 ghost use Rattle.std.specs.Prelude.{◌≡◌, IfOk, string_bytes};
-ghost use Rattle.tf_expand.specs.Words.{named_by, names_in, places};
+ghost use Rattle.tf_expand_keys.specs.Words.{named_by, names_in, places};
 ghost use Rattle.tf_walk_outputs.specs.Buffers.{HavePlaces, HasPlaces, outputs_in};
 ghost use Rattle.tf_expr_syntax.specs.ExprTree.{entries_view, tree_of};
 

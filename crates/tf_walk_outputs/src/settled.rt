@@ -1,11 +1,11 @@
 //! Which names are settled.
 
 ghost use Rattle.std.specs.Prelude.{◌≡◌, ◌<◌, ℕ, length, Contains};
-ghost use Rattle.tf_expand.specs.Words.{directly_before, has, IsInOrder, names_in, seen_by};
+ghost use Rattle.tf_expand_keys.specs.Words.{directly_before, has, IsInOrder, names_in, seen_by};
 ghost use Rattle.tf_walk_outputs.specs.Settled.{AreSettled, AreSettledAmong, all_settled as all_that_are, settled_rule};
 
 use tf_config_names::Declaration;
-use tf_expand::Module;
+use tf_expand_keys::Module;
 
 /// Works out which names are settled, by place: a resource where all its creates and updates are good, a local where each name that
 /// it refers to directly is. `good` says of the place of each resource whether all its creates and updates are good; one without

@@ -18,7 +18,7 @@ use Rattle.tf_state.specs.Valid.{AreAddresses, IsKey}
 use Rattle.tf_state.specs.Words.{is_address}
 use Rattle.tf_expr_syntax.specs.ExprTree.{Entries, no_entries, entry}
 use Rattle.tf_expr_syntax.specs.TemplateNames.{Pair}
-use Rattle.tf_value.proofs.Conjunction.{and-first, and-second, and-both}
+use Rattle.tf_value_data.proofs.Conjunction.{and-first, and-second, and-both}
 use Rattle.tf_walk_report.specs.Savable.{HasNames, IsNamed}
 
 -- ---- addresses

@@ -3,14 +3,14 @@ use Rattle.std.proofs.Common.{◌≡◌, ◌∙◌, ℕ, suc, Bool, List, [], �
 use Rattle.std.proofs.lemmas.List.{length-map}
 use Rattle.tf_config_address.specs.ObjectId.{InstanceKeyView}
 use Rattle.tf_config_data.specs.Names.{NameView}
-use Rattle.tf_expand.specs.InstanceKeys.{InstanceKeysView}
+use Rattle.tf_expand_keys.specs.InstanceKeys.{InstanceKeysView}
 use Rattle.tf_walk_action.specs.Outcome.{ActionResultView}
 use Rattle.tf_walk_outputs.specs.Outputs.{AreOutputsDone, AreOutputsEnded, OutputResultView, end_of}
 use Rattle.tf_walk_outputs.specs.declared.ends.OutputResult.{OutputResult}
 use Rattle.tf_plan_data.specs.Action.{ActionView}
 use Rattle.tf_state_data.specs.State.{StateView}
 use Rattle.tf_expr_syntax.specs.ExprTree as expr
-use Rattle.tf_value.specs.Tree.{Entries, Tree}
+use Rattle.tf_value_data.specs.Tree.{Entries, Tree}
 use Rattle.tf_walk_report.specs.OutputsBuffers.{places_in, places_of}
 use Rattle.tf_walk_report.specs.Settling.{AreEnded}
 use Rattle.tf_walk_report.specs.declared.settling.OutputValues.{OutputValues}

@@ -9,12 +9,12 @@ use Rattle.std.specs.Str.{bytes_eq}
 use Rattle.std.proofs.lemmas.Map.Text.{is_eq-slice_cmp}
 use Rattle.std.proofs.lemmas.Slice.Eq.{bytes_eq-Decides}
 use Rattle.tf_provider_protocol.specs.Schema.{AttributeView, SchemaView, IsSchema, ascends, is_below}
-use Rattle.tf_value.specs.Tree.{keys_of, Tree, map, Entries, no_entries, entry, get}
+use Rattle.tf_value_data.specs.Tree.{keys_of, Tree, map, Entries, no_entries, entry, get}
 use Rattle.tf_provider_protocol.specs.Verdict.{same_names, has_attributes, is_allowed, fits, fits_in, well_formed}
-use Rattle.tf_value.proofs.Conjunction.{and-first, and-second, and-both}
-use Rattle.tf_value.specs.Known.{known, known_entries}
+use Rattle.tf_value_data.proofs.Conjunction.{and-first, and-second, and-both}
+use Rattle.tf_value_data.specs.Known.{known, known_entries}
 use Rattle.tf_state.specs.Valid.{IsAttributes}
-use Rattle.tf_value.specs.Stored.{EachMayBeStored, may_be_stored, each_may_be_stored}
+use Rattle.tf_value_data.specs.Stored.{EachMayBeStored, may_be_stored, each_may_be_stored}
 use Rattle.tf_walk_report.specs.Formed.{allowed_in}
 use Rattle.tf_walk_action.specs.Storable.{has_stored_attributes}
 

@@ -16,7 +16,7 @@ use Rattle.tf_provider_protocol.specs.Schema.{SchemaView}
 use Rattle.tf_provider_protocol.specs.Verdict.{verdict_on}
 use Rattle.tf_provider_protocol.specs.declared.request.Op.{Op}
 use Rattle.tf_provider_protocol.specs.declared.verdict.Verdict.{Verdict}
-use Rattle.tf_value.specs.Tree.{Tree}
+use Rattle.tf_value_data.specs.Tree.{Tree}
 use Rattle.tf_walk_action.specs.Asked.{asked_by_step, asked_for, create_of, ignored_by, unless_faulty, update_of}
 use Rattle.tf_walk_action.specs.Journal.{op_at}
 use Rattle.tf_walk_action.specs.Excuse.{Moment, excuse_of}

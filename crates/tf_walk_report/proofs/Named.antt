@@ -4,9 +4,9 @@ use Rattle.std.proofs.Common.{Global, Bor}
 use Rattle.std.specs.Prelude.{Option, Result, Ok, is_ok, if◌then◌else◌, ◌++◌, MatchOption, slice_index_or}
 use Rattle.std.specs.Iterator.{Yields}
 use Rattle.std.specs.List.{list_all}
-use Rattle.tf_value.specs.Tree.{keys_of, entries_view}
-use Rattle.tf_value.proofs.Conjunction.{and-first, and-second}
-use Rattle.tf_value.specs.declared.value.Value.{Value}
+use Rattle.tf_value_data.specs.Tree.{keys_of, entries_view}
+use Rattle.tf_value_data.proofs.Conjunction.{and-first, and-second}
+use Rattle.tf_value_data.specs.declared.value.Value.{Value}
 
 abbrev Pairs : Type 0
 Pairs = List (String Global × Value)

@@ -12,10 +12,10 @@ use Rattle.tf_provider_protocol.specs.declared.verdict.Verdict.TheVariants as ve
 use Rattle.tf_state.specs.Valid.{IsAttributes}
 use Rattle.tf_state_next.specs.Ends.{as_applied, changed, unchanged}
 use Rattle.tf_state_next.specs.Saved.{as_saved, formed_in, left_by_destroy, object_replied, object_there}
-use Rattle.tf_value.specs.Nulls.{with_nulls}
+use Rattle.tf_value_data.specs.Nulls.{with_nulls}
 use Rattle.tf_state_data.specs.declared.object.Object.{Object}
 use Rattle.tf_walk_action.specs.Storable.{has_stored_attributes}
-use Rattle.tf_value.specs.Tree.{Tree, tree_of}
+use Rattle.tf_value_data.specs.Tree.{Tree, tree_of}
 use Rattle.tf_walk_report.specs.Change.{MayBeLeft, MayBeSaved, saved_by}
 
 -- a verdict by which a reply is saved

@@ -10,8 +10,8 @@ use Rattle.tf_provider_protocol.specs.Meaning.{Asked, Answer, failed}
 use Rattle.tf_provider_protocol.specs.declared.request.Op.{Op}
 use Rattle.tf_provider_protocol.specs.declared.verdict.Verdict.{Verdict}
 use Rattle.tf_provider_protocol.specs.declared.verdict.Verdict.TheVariants as verdict
-use Rattle.tf_value.specs.Tree.{keys_of}
-use Rattle.tf_value.specs.Tree as tree
+use Rattle.tf_value_data.specs.Tree.{keys_of}
+use Rattle.tf_value_data.specs.Tree as tree
 use Rattle.tf_walk_buffers.specs.Place.{place_of}
 use Rattle.tf_walk_report.specs.declared.diagnostic.Diagnostic.{Diagnostic}
 

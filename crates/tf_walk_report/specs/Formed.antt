@@ -3,7 +3,7 @@ use Rattle.std.specs.Prelude.{Bool, false}
 use Rattle.std.specs.Option.{option_map_or}
 use Rattle.tf_provider_protocol.specs.Schema.{AttributeView}
 use Rattle.tf_provider_protocol.specs.Verdict.{is_allowed}
-use Rattle.tf_value.specs.Tree.{Tree, part_at}
+use Rattle.tf_value_data.specs.Tree.{Tree, part_at}
 
 -- an object has a value for the attribute, and it is allowed
 abbrev pub allowed_in : Tree → AttributeView → Bool

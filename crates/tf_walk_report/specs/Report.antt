@@ -17,7 +17,7 @@ use Rattle.tf_plan_data.specs.Plan.{PlanView, plan_names}
 use Rattle.tf_provider_protocol.specs.Meaning.{Meaning}
 use Rattle.tf_state.specs.Valid.{IsValid}
 use Rattle.tf_state_data.specs.State.{StateView, state_of}
-use Rattle.tf_value.specs.Tree.{Entries, Tree}
+use Rattle.tf_value_data.specs.Tree.{Entries, Tree}
 use Rattle.tf_walk_report.specs.Events.{events}
 use Rattle.tf_walk_report.specs.Good.{are_good_at}
 use Rattle.tf_walk_report.specs.Outcomes.{excuses_from, good_totals, outcome_of}

@@ -14,7 +14,7 @@ use Rattle.tf_plan_data.specs.Fits.{is_apply}
 use Rattle.tf_plan_data.specs.Plan.{plan_names, plan_of}
 use Rattle.tf_plan_data.specs.declared.plan.Plan.{Plan}
 use Rattle.tf_state_data.specs.State.{outputs_of}
-use Rattle.tf_value.specs.Stored.{IsTable}
+use Rattle.tf_value_data.specs.Stored.{IsTable}
 use Rattle.tf_walk_buffers.specs.MetadataUpdates.{metadata_updates}
 use Rattle.tf_walk_report.specs.OutputsBuffers.{places_in, places_of}
 use Rattle.tf_walk_report.specs.Settling.{IsReady}

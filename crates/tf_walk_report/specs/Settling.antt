@@ -1,7 +1,7 @@
 -- What comes of outputs by what came of actions, and the room for it.
 use Rattle.std.specs.Prelude.{◌≡◌, ◌≤◌, ℕ, Bool, List, [], length, vec_capacity}
 use Rattle.tf_config_data.specs.Names.{NameView}
-use Rattle.tf_expand.specs.InstanceKeys.{InstanceKeysView}
+use Rattle.tf_expand_keys.specs.InstanceKeys.{InstanceKeysView}
 use Rattle.tf_graph.specs.Solutions.{seen_by}
 use Rattle.tf_walk_action.specs.Outcome.{ActionResultView, done_at, objects_seen}
 use Rattle.tf_walk_outputs.specs.Outputs.{AreOutputsEnded}
@@ -9,8 +9,8 @@ use Rattle.tf_walk_outputs.specs.Buffers.{HavePlaces, outputs_in}
 use Rattle.tf_walk_outputs.specs.Settled.{AreSettled}
 use Rattle.tf_plan_data.specs.Action.{ActionView}
 use Rattle.tf_state_data.specs.State.{StateView, outputs_of}
-use Rattle.tf_value.specs.Stored.{IsTable}
-use Rattle.tf_value.specs.Tree.{Entries}
+use Rattle.tf_value_data.specs.Stored.{IsTable}
+use Rattle.tf_value_data.specs.Tree.{Entries}
 use Rattle.tf_walk_report.specs.Good.{are_good_at}
 use Rattle.tf_walk_report.specs.declared.settling.OutputValues.{OutputValues}
 use Rattle.tf_walk_report.specs.declared.settling.Settling.{Settling}

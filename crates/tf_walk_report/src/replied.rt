@@ -14,7 +14,7 @@ ghost use Rattle.tf_walk_report.specs.Replied.{failure_in};
 use tf_provider::{Attribute, Reply, Schema, has_attributes};
 use tf_provider_protocol::is_allowed;
 use tf_state_data::Object;
-use tf_value::{Value, each_may_be_stored};
+use tf_value_data::{Value, each_may_be_stored};
 
 /// What a reply says: the object in it, where that is well formed, and the message of a failure.
 pub fn open_reply(reply: Reply, schema: &Schema) -> (Option<Object>, Option<String>)

@@ -25,7 +25,7 @@ use tf_state_data::Object;
 use tf_state_next::{
     Apply, Destroy, Events, Left, Saved, left_by_destroy, saved_by_create, saved_by_update,
 };
-use tf_value::{Value, with_nulls};
+use tf_value_data::{Value, with_nulls};
 use tf_walk_action::{ActionResult, Faulted, Served};
 use tf_walk_buffers::{ActionBuffers, Target};
 

@@ -12,7 +12,7 @@ ghost use Rattle.tf_walk_report.specs.Settling.{AreEnded, IsReady};
 use crate::good::note_good;
 use std::alloc::Global;
 use std::collections::BTreeMap;
-use tf_expand::Module;
+use tf_expand_keys::Module;
 use tf_plan_data::{Action, Plan};
 use tf_state_data::Object;
 use tf_walk_action::{ActionResult, Answered};

@@ -10,7 +10,7 @@ ghost use Rattle.tf_walk_report.specs.Replied.{failure_in};
 use crate::one_line::one_line;
 use tf_config_refusal::Code;
 use tf_provider::Verdict;
-use tf_value::Value;
+use tf_value_data::Value;
 
 /// What is told of a call, by the verdict on its reply: a code and a message. The message is the one of a failure, or it is
 /// written into the room that was made for it.

@@ -14,7 +14,7 @@ use crate::report::Report;
 use crate::reserving::{ReportBuffers, ReportLists};
 use crate::settling::{OutputValues, outputs_after};
 use std::alloc::Global;
-use tf_expand::Module;
+use tf_expand_keys::Module;
 use tf_plan_data::Plan;
 use tf_provider::{Journal, Provider};
 use tf_state_next::state_after;

@@ -4,7 +4,7 @@ use Rattle.std.specs.Prelude.{unwrap_or}
 use Rattle.std.specs.List.{list_all, AllByRecursion}
 use Rattle.tf_graph.proofs.Solving.{seen_by-same}
 use Rattle.tf_graph.specs.Solutions.{seen_by}
-use Rattle.tf_value.proofs.Conjunction.{and-first, and-second, and-both}
+use Rattle.tf_value_data.proofs.Conjunction.{and-first, and-second, and-both}
 use Rattle.tf_walk_action.specs.ResultViews.{action_result_of, result_or_skipped, action_results_of}
 use Rattle.tf_walk_action.specs.Outcome.{ActionResultView, skipped, is_good, all_good, done_at}
 use Rattle.tf_walk_action.specs.declared.action_result.ActionResult.{ActionResult}

@@ -17,7 +17,7 @@ use Rattle.tf_plan_data.specs.Plan.{PlanView}
 use Rattle.tf_provider_protocol.specs.Meaning.{Meaning}
 use Rattle.tf_provider_protocol.specs.declared.request.Op.{Op}
 use Rattle.tf_provider_protocol.specs.declared.verdict.Verdict.{Verdict}
-use Rattle.tf_value.proofs.Conjunction.{and-first, and-second}
+use Rattle.tf_value_data.proofs.Conjunction.{and-first, and-second}
 use Rattle.tf_walk_single.specs.Ends.{IsEnd, IsSoFar, IsStaged, Enters, AllHaveEnded, end_at, done_in, stage_of}
 use Rattle.tf_walk_action.specs.Outcome.{ActionResultView, skipped, Requests, AreRequests}
 use Rattle.tf_walk_action.specs.Journal.{IsOfAction, op_at, verdict_in, entered_verdict}

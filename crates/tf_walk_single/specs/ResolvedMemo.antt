@@ -1,7 +1,7 @@
 -- What a walk by one thread keeps of its requests.
 use Rattle.std.specs.Prelude.{◌≡◌, ◌<◌, ℕ, true, List, Option, IfSome}
 use Rattle.std.specs.List.{list_all}
-use Rattle.tf_expand.specs.declared.resolved.Resolved.{Resolved}
+use Rattle.tf_expand_keys.specs.declared.resolved.Resolved.{Resolved}
 use Rattle.tf_graph.specs.Digraph.{predecessors_of}
 use Rattle.tf_graph.specs.Solutions.{seen_by}
 use Rattle.tf_plan_data.specs.Plan.{PlanView}

@@ -4,7 +4,7 @@ ghost use Rattle.std.specs.Prelude.{◌≡◌, ◌<◌, ◌↔◌, [], None, Som
 ghost use Rattle.tf_walk_action.specs.Words.{predecessors_of};
 
 use std::alloc::Global;
-use tf_expand::Resolved;
+use tf_expand_keys::Resolved;
 use tf_graph::Graph;
 
 /// What names stand for by the actions before one, as far as that was worked out. It holds for each action that has the same

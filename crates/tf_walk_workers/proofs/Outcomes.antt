@@ -8,7 +8,7 @@ use Rattle.tf_walk_action.specs.Outcome.{ActionResultView, skipped, excused, fau
 use Rattle.tf_walk_action.specs.declared.excuse.Excuse.{Excuse}
 use Rattle.tf_plan_data.specs.Plan.{PlanView}
 use Rattle.tf_provider_protocol.specs.Meaning.{Meaning}
-use Rattle.tf_value.proofs.Conjunction.{and-first, and-second}
+use Rattle.tf_value_data.proofs.Conjunction.{and-first, and-second}
 use Rattle.tf_walk_workers.proofs.CallsSeen.{rule-calls}
 use Rattle.tf_walk_workers.proofs.TrueEnds.{good-is}
 use Rattle.tf_walk_workers.specs.Ideal.{IsIdeal, AgreesWith}

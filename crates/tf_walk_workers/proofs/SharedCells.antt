@@ -8,7 +8,7 @@ use Rattle.std.proofs.MapsCrossing as maps
 use Rattle.counted_slot.proofs.Counted.TheSendSync.{the_sync}
 use Rattle.tf_walk_action.specs.contracts.action_result.ActionResult as ended
 use Rattle.tf_provider.specs.contracts.called.Judged as judged
-use Rattle.tf_value.proofs.value.Value.TheLaws.TheKnot as value
+use Rattle.tf_value_data.proofs.value.Value.TheLaws.TheKnot as value
 use Rattle.tf_walk_workers.specs.contracts.cells.Cells.{the_row}
 use Rattle.tf_walk_workers.specs.declared.walk_brand.WalkBrand.{Ghosts}
 

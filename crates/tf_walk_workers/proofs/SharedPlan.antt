@@ -28,7 +28,7 @@ use Rattle.tf_state_data.specs.contracts.state.State as state
 use Rattle.tf_expr_syntax.proofs.expr.Expr.TheLaws.TheKnot as expr
 use Rattle.tf_expr_syntax.proofs.tree.Term.TheLaws.TheKnot as term
 use Rattle.tf_expr_syntax.specs.contracts.expr.Expr as expression
-use Rattle.tf_value.proofs.value.Value.TheLaws.TheKnot as value
+use Rattle.tf_value_data.proofs.value.Value.TheLaws.TheKnot as value
 
 addr_sync : IsSync addr.the_row
 addr_sync = search (maps.crosses, crosses, sendable) depth 60 fits 20000

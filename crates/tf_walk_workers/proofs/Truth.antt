@@ -16,7 +16,7 @@ use Rattle.tf_walk_action.specs.Run.{IsRun}
 use Rattle.tf_plan_data.specs.Plan.{PlanView, plan_names}
 use Rattle.tf_provider_protocol.specs.Meaning.{Meaning}
 use Rattle.tf_state_data.specs.State.{StateView}
-use Rattle.tf_value.specs.Tree.{Tree}
+use Rattle.tf_value_data.specs.Tree.{Tree}
 
 -- what may come of the action's call is true of it
 runs_true : (ms : List Meaning) (plan : PlanView) (n : ℕ) (seen : List (ℕ × ActionResultView)) (d : ActionResultView) → n < length plan.actions

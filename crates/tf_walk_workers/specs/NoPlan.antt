@@ -1,10 +1,10 @@
 -- A plan in which there is nothing to do.
 use Rattle.std.specs.Prelude.{[], false}
-use Rattle.tf_expand.specs.InstanceKeys as shape
+use Rattle.tf_expand_keys.specs.InstanceKeys as shape
 use Rattle.tf_plan_data.specs.Plan.{PlanView}
 use Rattle.tf_state_data.specs.State.{empty_state}
 use Rattle.tf_expr_syntax.specs.ExprTree as expr
-use Rattle.tf_value.specs.Tree.{no_entries}
+use Rattle.tf_value_data.specs.Tree.{no_entries}
 
 abbrev pub no_plan : PlanView
 no_plan =

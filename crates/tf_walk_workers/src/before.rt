@@ -13,7 +13,7 @@ use tf_config_address::InstanceKey;
 use tf_config_names::Declarations;
 use tf_plan_data::Action;
 use tf_state_data::State;
-use tf_value::Value;
+use tf_value_data::Value;
 use tf_walk_action::{applies_to, prior_object};
 use tf_walk_names::Results;
 

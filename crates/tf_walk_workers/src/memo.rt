@@ -11,7 +11,7 @@ use crate::steps::WorkerContext;
 use crate::walk_brand::WalkBrand;
 use std::alloc::AllocError;
 use std::sync::Wait;
-use tf_expand::Resolved;
+use tf_expand_keys::Resolved;
 use tf_plan_data::Plan;
 use tf_walk_action::NotGood;
 

@@ -10,7 +10,7 @@ use crate::walk_brand::WalkBrand;
 use counted_slot::Claim;
 use std::alloc::{AllocError, Global};
 use tf_provider_protocol::Reply;
-use tf_value::{Value, copy};
+use tf_value_data::{Value, copy};
 use tf_walk_action::{ActionResult, NotGood};
 
 /// What came of an action, which stays in its cell while this lives.

@@ -1,7 +1,7 @@
 use Rattle.std.proofs.Common.{map}
 use Rattle.tf_config_data.specs.Config.{config_of}
 use Rattle.tf_state_data.specs.State.{state_of}
-use Rattle.tf_value.specs.Tree.{entries_view}
+use Rattle.tf_value_data.specs.Tree.{entries_view}
 use Rattle.tf_cli.proofs.Planned.{plan_of_texts}
 use Rattle.tf_cli.proofs.planning.plan_of_texts.Goals as goal
 

@@ -5,7 +5,7 @@ use Rattle.tf_plan_text.specs.Dot.{IsDrawn}
 use Rattle.std.specs.Prelude.{IfErr}
 use Rattle.tf_cli.specs.Refusals.{AreRefusals}
 use Rattle.tf_cli_inputs.specs.Texts.{the_texts}
-use Rattle.tf_plan.specs.Refused.{Tells}
+use Rattle.tf_plan_planner.specs.Refused.{Tells}
 use Rattle.tf_cli_program.proofs.Worked.{are_refused, is_drawn}
 use Rattle.tf_cli_program.proofs.drawing.graph_text.Goals as goal
 

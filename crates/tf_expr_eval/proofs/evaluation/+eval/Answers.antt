@@ -1,7 +1,7 @@
 use Rattle.std.proofs.lemmas.Result.{err_from_is_err_and}
 use Rattle.std.proofs.lemmas.List.{length-map}
 use Rattle.std.proofs.Common.{◌≡◌, ◌<◌, [], ◌∷◌, ◌++◌, length, get_or, map, string_bytes, sym, ap, ◌∙◌, arith}
-use Rattle.tf_value.specs.Tree.{no_items, text}
+use Rattle.tf_value_data.specs.Tree.{no_items, text}
 use Rattle.tf_expr_syntax.specs.TemplateTree.{parts_view, terms_view}
 use Rattle.tf_expr_operators.specs.Answer.{items_behind, item_behind}
 use Rattle.tf_expr_operators.specs.Found.{found_tree}

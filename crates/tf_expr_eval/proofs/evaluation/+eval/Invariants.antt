@@ -1,5 +1,5 @@
 use Rattle.std.proofs.Common.{◌≡◌, ℕ, List, map, drop}
-use Rattle.tf_value.specs.Tree.{Tree, Items}
+use Rattle.tf_value_data.specs.Tree.{Tree, Items}
 use Rattle.tf_expr_syntax.specs.TemplateTree.{parts_view, terms_view}
 use Rattle.tf_expr_operators.specs.Answer.{items_behind}
 use Rattle.tf_expr_operators.specs.Found.{found_tree}

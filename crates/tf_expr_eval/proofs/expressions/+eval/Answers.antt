@@ -1,8 +1,8 @@
 use Rattle.std.proofs.Common.{◌≡◌, ◌≤◌, ℕ, List, Result, Ok, Err, length, map, drop, ap, ◌∙◌, rules}
 use Rattle.std.proofs.lemmas.List.{append-nil, drop_all}
 use Rattle.std.proofs.lemmas.Result.{err_from_is_err_and}
-use Rattle.tf_value.specs.Tree.{tree_of as value_of}
-use Rattle.tf_value.specs.declared.value.Value.{Value}
+use Rattle.tf_value_data.specs.Tree.{tree_of as value_of}
+use Rattle.tf_value_data.specs.declared.value.Value.{Value}
 use Rattle.tf_expr_syntax.specs.ExprTree.{list, tree_of, trees_view}
 use Rattle.tf_expr_syntax.specs.declared.expr.Expr.{Expr}
 use Rattle.tf_expr_syntax.specs.declared.expr.Expr.{the_lemmas}

@@ -1,5 +1,5 @@
 use Rattle.std.proofs.Common.{◌≡◌, map, drop}
-use Rattle.tf_value.specs.Tree.{tree_of as value_of, entries_view as entries_of_values}
+use Rattle.tf_value_data.specs.Tree.{tree_of as value_of, entries_view as entries_of_values}
 use Rattle.tf_expr_eval.proofs.Rows.{onto}
 use Rattle.tf_expr_eval.specs.ExprMeaning.{meanings}
 use Rattle.tf_expr_syntax.specs.ExprTree.{trees_view}

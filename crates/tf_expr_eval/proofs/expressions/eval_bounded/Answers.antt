@@ -1,4 +1,4 @@
-use Rattle.tf_value.specs.Tree.{tree_of as value_of}
+use Rattle.tf_value_data.specs.Tree.{tree_of as value_of}
 use Rattle.tf_expr_syntax.specs.ExprTree.{tree_of}
 use Rattle.tf_expr_eval.proofs.expressions.eval_bounded.Goals as goal
 

@@ -1,6 +1,6 @@
 use Rattle.std.proofs.Common.{◌≡◌, ◌∷◌, [], ◌++◌, sym, ap, ◌∙◌, subst, true, inl, inr}
 use Rattle.std.specs.Option.{option_to_list}
-use Rattle.tf_value.specs.Tree.{tree_of, items_of}
+use Rattle.tf_value_data.specs.Tree.{tree_of, items_of}
 use Rattle.tf_expr_operators.specs.Answer.{Gives}
 use Rattle.tf_expr_operators.specs.Found.{found_tree}
 use Rattle.tf_expr_operators.specs.Functions.{merge_value, concat_value, join_value}

@@ -1,6 +1,6 @@
 use Rattle.std.proofs.Common.{◌≡◌, [], ◌∷◌, drop, sym, ap, ◌∙◌, ◌+◌}
 use Rattle.std.proofs.Math.ListN.{drop_of_length-le}
-use Rattle.tf_value.specs.Tree.{no_items, item, tree_of, items_view}
+use Rattle.tf_value_data.specs.Tree.{no_items, item, tree_of, items_view}
 use Rattle.tf_expr_operators.specs.Answer.{item_behind, items_behind}
 use Rattle.tf_expr_operators.specs.Functions.{each_after, spaced}
 use Rattle.tf_expr_operators.specs.Joining.{joined_value}

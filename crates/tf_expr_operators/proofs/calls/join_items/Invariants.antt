@@ -1,5 +1,5 @@
 use Rattle.std.proofs.Common.{◌≡◌, drop}
-use Rattle.tf_value.specs.Tree.{Items, tree_of, items_view}
+use Rattle.tf_value_data.specs.Tree.{Items, tree_of, items_view}
 use Rattle.tf_expr_operators.specs.Answer.{items_behind}
 use Rattle.tf_expr_operators.specs.Functions.{each_after, spaced}
 use Rattle.tf_expr_operators.specs.Joiner.{Joins}

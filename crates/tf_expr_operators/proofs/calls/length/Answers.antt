@@ -1,6 +1,6 @@
 use Rattle.std.proofs.Common.{pos, sym, ap, ◌∙◌, subst}
-use Rattle.tf_value.specs.Tree.{tree_of}
-use Rattle.tf_value.proofs.Views.{tree_of-List, tree_of-Map, tree_of-Set}
+use Rattle.tf_value_data.specs.Tree.{tree_of}
+use Rattle.tf_value_data.proofs.Views.{tree_of-List, tree_of-Map, tree_of-Set}
 use Rattle.tf_expr_operators.specs.Answer.{Answers, whole_value}
 use Rattle.tf_expr_operators.specs.Functions.{length_value}
 use Rattle.tf_expr_operators.proofs.Rows.{items_count-view, entries_count-view, texts_view-length}

@@ -1,8 +1,8 @@
 use Rattle.std.proofs.Common.{◌≡◌, Some, option_map, sym, ap, ◌∙◌}
 use Rattle.std.proofs.lemmas.List.{nil_from_length}
 use Rattle.std.specs.Vec.Iter.{into_iter_items}
-use Rattle.tf_value.specs.Tree.{item, items_view, tree_of}
-use Rattle.tf_value.proofs.Views.{tree_of-List}
+use Rattle.tf_value_data.specs.Tree.{item, items_view, tree_of}
+use Rattle.tf_value_data.proofs.Views.{tree_of-List}
 use Rattle.tf_expr_operators.specs.Answer.{items_behind, list_value}
 use Rattle.tf_expr_operators.specs.Functions.{concatenated, items_value}
 use Rattle.tf_expr_operators.proofs.Faults.{Gives-equal}

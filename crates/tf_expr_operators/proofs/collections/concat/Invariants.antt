@@ -1,6 +1,6 @@
 use Rattle.std.proofs.Common.{◌≡◌, option_map}
 use Rattle.std.specs.Vec.Iter.{into_iter_items}
-use Rattle.tf_value.specs.Tree.{items_view}
+use Rattle.tf_value_data.specs.Tree.{items_view}
 use Rattle.tf_expr_operators.specs.Answer.{items_behind}
 use Rattle.tf_expr_operators.specs.Functions.{concatenated}
 use Rattle.tf_expr_operators.proofs.collections.concat.Given as goal

@@ -1,5 +1,5 @@
 use Rattle.std.proofs.Common.{◌≡◌, drop}
-use Rattle.tf_value.specs.Tree.{items_view}
+use Rattle.tf_value_data.specs.Tree.{items_view}
 use Rattle.tf_expr_operators.specs.Answer.{any_unknown}
 use Rattle.tf_expr_operators.proofs.collections.has_unknown.Given as goal
 

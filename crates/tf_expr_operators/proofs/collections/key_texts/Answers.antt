@@ -1,7 +1,7 @@
 use Rattle.std.proofs.Common.{◌≡◌, [], sym, ap, ◌∙◌, rules}
 use Rattle.std.specs.Map.{keys_of}
-use Rattle.tf_value.specs.Tree.{text, item, items_view, texts_view, text_items}
-use Rattle.tf_value.specs.declared.value.Value.{Text}
+use Rattle.tf_value_data.specs.Tree.{text, item, items_view, texts_view, text_items}
+use Rattle.tf_value_data.specs.declared.value.Value.{Text}
 use Rattle.tf_expr_operators.specs.Answer.{items_behind}
 use Rattle.tf_expr_operators.proofs.Rows.{key_items-view, items_behind-nil, items_behind-push}
 use Rattle.tf_expr_operators.proofs.Trees.{tree_of-Text}

@@ -1,5 +1,5 @@
 use Rattle.std.proofs.Common.{◌≡◌}
-use Rattle.tf_value.specs.Tree.{items_view, entries_view, texts_view, text_items}
+use Rattle.tf_value_data.specs.Tree.{items_view, entries_view, texts_view, text_items}
 use Rattle.tf_expr_operators.specs.Answer.{items_behind}
 use Rattle.tf_expr_operators.specs.Functions.{key_items}
 use Rattle.tf_expr_operators.proofs.collections.key_texts.Given as goal

@@ -1,6 +1,6 @@
 use Rattle.std.proofs.Common.{Ok, sym, ap, ◌∙◌}
-use Rattle.tf_value.specs.Tree.{list, tree_of}
-use Rattle.tf_value.proofs.Views.{tree_of-List, tree_of-Map}
+use Rattle.tf_value_data.specs.Tree.{list, tree_of}
+use Rattle.tf_value_data.proofs.Views.{tree_of-List, tree_of-Map}
 use Rattle.tf_expr_operators.specs.Functions.{keys_value}
 use Rattle.tf_expr_operators.proofs.collections.keys.Goals as goal
 

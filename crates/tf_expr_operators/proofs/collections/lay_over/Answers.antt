@@ -1,6 +1,6 @@
 use Rattle.std.proofs.Common.{sym, ap, ◌∙◌}
-use Rattle.tf_value.specs.Tree.{entries_view}
-use Rattle.tf_value.proofs.Views.{entries_view-insert_entry}
+use Rattle.tf_value_data.specs.Tree.{entries_view}
+use Rattle.tf_value_data.proofs.Views.{entries_view-insert_entry}
 use Rattle.tf_expr_operators.specs.Functions.{laid_over}
 use Rattle.tf_expr_operators.proofs.collections.lay_over.Goals as goal
 

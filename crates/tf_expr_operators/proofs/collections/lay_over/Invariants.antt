@@ -1,5 +1,5 @@
 use Rattle.std.proofs.Common.{◌≡◌}
-use Rattle.tf_value.specs.Tree.{entries_view}
+use Rattle.tf_value_data.specs.Tree.{entries_view}
 use Rattle.tf_expr_operators.specs.Functions.{laid_over}
 use Rattle.tf_expr_operators.proofs.collections.lay_over.Given as goal
 

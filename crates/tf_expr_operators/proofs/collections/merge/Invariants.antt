@@ -1,6 +1,6 @@
 use Rattle.std.proofs.Common.{◌≡◌}
 use Rattle.std.specs.Vec.Iter.{into_iter_items}
-use Rattle.tf_value.specs.Tree.{no_entries, items_view, entries_view}
+use Rattle.tf_value_data.specs.Tree.{no_entries, items_view, entries_view}
 use Rattle.tf_expr_operators.specs.Functions.{merged_onto}
 use Rattle.tf_expr_operators.proofs.collections.merge.Given as goal
 

@@ -1,8 +1,8 @@
 use Rattle.std.proofs.Common.{◌≡◌, [], Some, Ok, sym, ap, ◌∙◌}
 use Rattle.std.proofs.lemmas.List.{nil_from_length}
 use Rattle.std.specs.Vec.Iter.{into_iter_items}
-use Rattle.tf_value.specs.Tree.{item, items_view, texts_view, tree_of}
-use Rattle.tf_value.proofs.Views.{tree_of-Set, tree_of-Text}
+use Rattle.tf_value_data.specs.Tree.{item, items_view, texts_view, tree_of}
+use Rattle.tf_value_data.proofs.Views.{tree_of-Set, tree_of-Text}
 use Rattle.tf_expr_operators.specs.Functions.{texts_value, texts_with}
 use Rattle.tf_expr_operators.proofs.Rows.{texts_view-insert_key}
 use Rattle.tf_expr_operators.proofs.collections.set_of_texts.Goals as goal

@@ -1,6 +1,6 @@
 use Rattle.std.proofs.Common.{◌≡◌, []}
 use Rattle.std.specs.Vec.Iter.{into_iter_items}
-use Rattle.tf_value.specs.Tree.{items_view, texts_view}
+use Rattle.tf_value_data.specs.Tree.{items_view, texts_view}
 use Rattle.tf_expr_operators.specs.Functions.{texts_with}
 use Rattle.tf_expr_operators.proofs.collections.set_of_texts.Given as goal
 

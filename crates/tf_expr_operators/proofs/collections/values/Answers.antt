@@ -1,7 +1,7 @@
 use Rattle.std.proofs.Common.{◌≡◌, Ok, sym, ap, ◌∙◌, rules}
 use Rattle.std.specs.Map.{values_of}
-use Rattle.tf_value.specs.Tree.{list, items_view, tree_of}
-use Rattle.tf_value.proofs.Views.{tree_of-List, tree_of-Map}
+use Rattle.tf_value_data.specs.Tree.{list, items_view, tree_of}
+use Rattle.tf_value_data.proofs.Views.{tree_of-List, tree_of-Map}
 use Rattle.tf_expr_operators.specs.Functions.{values_value}
 use Rattle.tf_expr_operators.proofs.Rows.{value_items-view}
 use Rattle.tf_expr_operators.proofs.collections.values.Goals as goal

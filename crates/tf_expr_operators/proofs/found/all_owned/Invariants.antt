@@ -1,5 +1,5 @@
 use Rattle.std.proofs.Common.{◌≡◌, map}
-use Rattle.tf_value.specs.Tree.{tree_of}
+use Rattle.tf_value_data.specs.Tree.{tree_of}
 use Rattle.tf_expr_operators.specs.Found.{found_tree}
 use Rattle.tf_expr_operators.proofs.found.all_owned.Given as goal
 

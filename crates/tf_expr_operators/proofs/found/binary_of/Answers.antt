@@ -1,5 +1,5 @@
 use Rattle.std.proofs.Common.{subst}
-use Rattle.tf_value.specs.Tree.{tree_of}
+use Rattle.tf_value_data.specs.Tree.{tree_of}
 use Rattle.tf_expr_operators.specs.Found.{FindsExactly, found_tree}
 use Rattle.tf_expr_operators.specs.Operators.{binary_value}
 use Rattle.tf_expr_operators.proofs.found.binary_of.Goals as goal

@@ -1,5 +1,5 @@
 use Rattle.std.proofs.Common.{sym, ap, ◌∙◌, subst}
-use Rattle.tf_value.specs.Tree.{map, text, tree_of, entries_view, get}
+use Rattle.tf_value_data.specs.Tree.{map, text, tree_of, entries_view, get}
 use Rattle.tf_expr_operators.specs.Answer.{present_value}
 use Rattle.tf_expr_operators.specs.Found.{FindsExactly}
 use Rattle.tf_expr_operators.specs.Parts.{index_value}

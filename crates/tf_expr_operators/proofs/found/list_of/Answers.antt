@@ -1,5 +1,5 @@
 use Rattle.std.proofs.Common.{ap}
-use Rattle.tf_value.specs.Tree.{items_of, items_view}
+use Rattle.tf_value_data.specs.Tree.{items_of, items_view}
 use Rattle.tf_expr_operators.specs.Answer.{list_value}
 use Rattle.tf_expr_operators.specs.Found.{found_items}
 use Rattle.tf_expr_operators.proofs.Faults.{Gives-equal}

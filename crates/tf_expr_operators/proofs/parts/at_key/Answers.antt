@@ -1,6 +1,6 @@
 use Rattle.std.proofs.Common.{option_map, sym, ap, ◌∙◌}
-use Rattle.tf_value.specs.Tree.{tree_of}
-use Rattle.tf_value.proofs.Views.{tree_of-lookup}
+use Rattle.tf_value_data.specs.Tree.{tree_of}
+use Rattle.tf_value_data.proofs.Views.{tree_of-lookup}
 use Rattle.tf_expr_operators.specs.Answer.{present_value}
 use Rattle.tf_expr_operators.proofs.parts.at_key.Goals as goal
 

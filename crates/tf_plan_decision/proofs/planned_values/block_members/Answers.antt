@@ -3,8 +3,8 @@ use Rattle.tf_config_address.specs.ResourceAddr.{addr_of}
 use Rattle.tf_config_address.specs.ObjectId.{instance_key_of}
 use Rattle.tf_plan_decision.proofs.Listed.{listed}
 use Rattle.tf_plan_decision.specs.Stage.{records_at}
-use Rattle.tf_expand.specs.InstanceKeys.{instance_keys}
-use Rattle.tf_expand.specs.Views.{shape_of}
+use Rattle.tf_expand_keys.specs.InstanceKeys.{instance_keys}
+use Rattle.tf_expand_keys.specs.Views.{shape_of}
 use Rattle.tf_plan_decision.proofs.planned_values.block_members.Goals as goal
 use Rattle.tf_state_data.specs.Record.{record_of}
 use Rattle.tf_state_data.specs.State.{state_of}

@@ -8,7 +8,7 @@ use Rattle.tf_plan_decision.proofs.planned_values.decide_block.Goals as goal
 use Rattle.tf_plan_decision.specs.Outcome.{member_outcome}
 use Rattle.tf_plan_decision.specs.Settling.{settled_from, settled_key, settled_of}
 use Rattle.tf_plan_decision.specs.Stage.{block_members}
-use Rattle.tf_expand.specs.Views.{shape_of, resolved_of}
+use Rattle.tf_expand_keys.specs.Views.{shape_of, resolved_of}
 use Rattle.tf_plan_order.specs.MemberViews.{member_of}
 use Rattle.tf_provider_protocol.specs.Meaning.{schema_in}
 use Rattle.tf_plan_decision.specs.Deciding.{decided_of}

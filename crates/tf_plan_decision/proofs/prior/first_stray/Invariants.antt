@@ -1,6 +1,6 @@
 -- the first name so far, with those that are left
 use Rattle.std.proofs.Common.{◌≡◌, fold, option_map}
-use Rattle.tf_value.specs.Tree.{entries_view}
+use Rattle.tf_value_data.specs.Tree.{entries_view}
 use Rattle.tf_plan_decision.specs.Names.{sooner_name}
 use Rattle.tf_plan_decision.specs.Prior.{strays}
 use Rattle.tf_plan_decision.proofs.prior.first_stray.Given as goal

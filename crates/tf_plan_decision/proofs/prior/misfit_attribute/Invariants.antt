@@ -1,7 +1,7 @@
 -- the first name so far, with those that are left
 use Rattle.std.proofs.Common.{◌≡◌, drop, fold, map, option_map}
 use Rattle.tf_provider_protocol.specs.Schema.{attribute_of}
-use Rattle.tf_value.specs.Tree.{entries_view}
+use Rattle.tf_value_data.specs.Tree.{entries_view}
 use Rattle.tf_plan_decision.specs.Names.{first_name, sooner_name}
 use Rattle.tf_plan_decision.specs.Prior.{misfits}
 use Rattle.tf_plan_decision.proofs.prior.misfit_attribute.Given as goal

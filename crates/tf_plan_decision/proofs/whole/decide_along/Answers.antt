@@ -1,12 +1,12 @@
 use Rattle.std.proofs.Common.{rules, ◌<◌, ℕ, length, map, slice_index_or, refl, ap, ◌∙◌, arith}
 use Rattle.tf_plan_decision.proofs.Along.{looked_start, looked_more, place_within, rows_all}
 use Rattle.tf_plan_decision.specs.Stage.{deciding}
-use Rattle.tf_expand.proofs.Keeping.{kept_all}
-use Rattle.tf_expand.specs.Views.{shapes_of}
-use Rattle.tf_expand.specs.declared.table.ModuleParts.{ModuleParts}
+use Rattle.tf_expand_keys.proofs.Keeping.{kept_all}
+use Rattle.tf_expand_keys.specs.Views.{shapes_of}
+use Rattle.tf_expand_keys.specs.declared.table.ModuleParts.{ModuleParts}
 use Rattle.tf_config_names.specs.Table.{names_in}
 use Rattle.tf_state_data.specs.State.{state_of}
-use Rattle.tf_value.specs.Tree.{entries_view}
+use Rattle.tf_value_data.specs.Tree.{entries_view}
 use Rattle.tf_plan_decision.proofs.whole.decide_along.Goals as goal
 
 pub loop-place-init : goal.loop-place-init

@@ -1,10 +1,10 @@
 use Rattle.std.proofs.Common.{map}
 use Rattle.tf_plan_decision.proofs.Along.{AreLooked}
 use Rattle.tf_plan_decision.proofs.whole.decide_along.Given as goal
-use Rattle.tf_expand.specs.Views.{shapes_of}
+use Rattle.tf_expand_keys.specs.Views.{shapes_of}
 use Rattle.tf_config_names.specs.Table.{names_in}
 use Rattle.tf_state_data.specs.State.{state_of}
-use Rattle.tf_value.specs.Tree.{entries_view}
+use Rattle.tf_value_data.specs.Tree.{entries_view}
 
 abbrev pub invariant-loop-place : goal.invariant-loop-place
 invariant-loop-place g l =

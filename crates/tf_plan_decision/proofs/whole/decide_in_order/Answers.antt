@@ -1,14 +1,14 @@
 use Rattle.std.proofs.Common.{IfOk, Contains, map, ap, subst, ◌∙◌}
 use Rattle.tf_plan_decision.specs.Rows.{AreDecided, rows_of}
 use Rattle.tf_plan_decision.specs.Stage.{deciding}
-use Rattle.tf_expand.specs.Kept.{AreResolved}
-use Rattle.tf_expand.specs.Module.{IsModule}
-use Rattle.tf_expand.specs.Views.{shapes_of, resolved_names_of}
-use Rattle.tf_expand.specs.declared.table.ModuleParts.{ModuleParts}
+use Rattle.tf_expand_keys.specs.Kept.{AreResolved}
+use Rattle.tf_expand_keys.specs.Module.{IsModule}
+use Rattle.tf_expand_keys.specs.Views.{shapes_of, resolved_names_of}
+use Rattle.tf_expand_keys.specs.declared.table.ModuleParts.{ModuleParts}
 use Rattle.tf_config_names.specs.Needs.{order_in}
 use Rattle.tf_config_names.specs.Table.{names_in}
 use Rattle.tf_state_data.specs.State.{state_of}
-use Rattle.tf_value.specs.Tree.{entries_view}
+use Rattle.tf_value_data.specs.Tree.{entries_view}
 use Rattle.tf_plan_decision.proofs.whole.decide_in_order.Goals as goal
 
 pub decide_along-requires-clause-within : goal.decide_along-requires-clause-within

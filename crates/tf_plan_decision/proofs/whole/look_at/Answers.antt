@@ -1,16 +1,16 @@
 use Rattle.std.proofs.Common.{◌≡◌, ℕ, List, Some, None, map, sym, ap, subst, ◌∙◌}
 use Rattle.tf_config_data.specs.Names.{directly_before, meant_at}
 use Rattle.tf_config_names.specs.Table.{names_in}
-use Rattle.tf_expand.specs.Resolved.{all_stand}
-use Rattle.tf_expand.specs.Views.{resolved_of, resolved_names_of, shapes_of}
-use Rattle.tf_expand.specs.Words.{seen_by}
-use Rattle.tf_expand.specs.declared.table.ModuleParts.{ModuleParts}
+use Rattle.tf_expand_keys.specs.Resolved.{all_stand}
+use Rattle.tf_expand_keys.specs.Views.{resolved_of, resolved_names_of, shapes_of}
+use Rattle.tf_expand_keys.specs.Words.{seen_by}
+use Rattle.tf_expand_keys.specs.declared.table.ModuleParts.{ModuleParts}
 use Rattle.tf_plan_decision.proofs.Looking.{IsLooked, nothing_either, nothing_in_row, shape_found}
 use Rattle.tf_plan_decision.proofs.whole.look_at.Given.{Over}
 use Rattle.tf_plan_decision.proofs.whole.look_at.Goals as goal
 use Rattle.tf_plan_decision.proofs.whole.look_at.Goals.{After-all_stand}
 use Rattle.tf_state_data.specs.State.{state_of}
-use Rattle.tf_value.specs.Tree.{entries_view}
+use Rattle.tf_value_data.specs.Tree.{entries_view}
 
 -- whether all that the name needs stands
 told : (g : Over) (c : After-all_stand g) → all_stand (seen_by (resolved_names_of c.args.kept.now) (directly_before (names_in c.declared.inside.parts.names.now) c.args.place)) ≡ c.all_stand.result

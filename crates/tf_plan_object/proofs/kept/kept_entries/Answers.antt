@@ -1,7 +1,7 @@
 use Rattle.std.proofs.Common.{◌≡◌, ℕ, List, [], ◌∷◌, map, refl, ap, ◌∙◌, string_bytes}
 use Rattle.tf_provider_protocol.specs.Schema.{SchemaView}
-use Rattle.tf_value.specs.Tree.{Tree, entry, tree_of, entries_view}
-use Rattle.tf_value.proofs.Views.{Entry, shown}
+use Rattle.tf_value_data.specs.Tree.{Tree, entry, tree_of, entries_view}
+use Rattle.tf_value_data.proofs.Views.{Entry, shown}
 use Rattle.tf_plan_object.specs.Kept.{kept_entries, kept_value}
 use Rattle.tf_plan_object.proofs.Shown.{entries_all, entry_more, keyed}
 use Rattle.tf_plan_object.proofs.kept.kept_entries.Goals as goal

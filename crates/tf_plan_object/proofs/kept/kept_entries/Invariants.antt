@@ -1,5 +1,5 @@
 use Rattle.std.proofs.Common.{map, string_bytes}
-use Rattle.tf_value.specs.Tree.{tree_of, entries_view}
+use Rattle.tf_value_data.specs.Tree.{tree_of, entries_view}
 use Rattle.tf_plan_object.specs.Kept.{kept_value}
 use Rattle.tf_plan_object.proofs.Shown.{AreShownBefore}
 use Rattle.tf_plan_object.proofs.kept.kept_entries.Given as goal

@@ -1,7 +1,7 @@
 use Rattle.std.proofs.Common.{◌≡◌, true, Ok, refl, ap, ◌∙◌}
-use Rattle.tf_value.specs.Tree.{tree_of, entries_view, put}
-use Rattle.tf_value.specs.Stored.{may_be_planned}
-use Rattle.tf_value.proofs.Views.{entries_view-insert_entry}
+use Rattle.tf_value_data.specs.Tree.{tree_of, entries_view, put}
+use Rattle.tf_value_data.specs.Stored.{may_be_planned}
+use Rattle.tf_value_data.proofs.Views.{entries_view-insert_entry}
 use Rattle.tf_plan_object.proofs.Within.{put_within}
 use Rattle.tf_plan_object.proofs.object.add_value.Goals as goal
 

@@ -2,7 +2,7 @@ use Rattle.std.proofs.Common.{◌≡◌, ℕ, ◌+◌, List, [], ◌∷◌, sym,
 use Rattle.std.proofs.lemmas.List.{drop_all}
 use Rattle.tf_expr_syntax.specs.ExprTree.{get, tree_of as expr_of, entries_view as arguments_view}
 use Rattle.tf_provider_protocol.specs.Schema.{attribute_of}
-use Rattle.tf_value.specs.Tree.{tree_of, entries_view}
+use Rattle.tf_value_data.specs.Tree.{tree_of, entries_view}
 use Rattle.tf_plan_object.specs.Argument.{attribute_value}
 use Rattle.tf_plan_object.specs.Gives.{Gives}
 use Rattle.tf_plan_object.proofs.Attributes.{drop-item, so_far-step}

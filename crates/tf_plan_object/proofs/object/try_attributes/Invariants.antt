@@ -2,7 +2,7 @@
 use Rattle.std.proofs.Common.{◌≡◌, true, map, drop, option_map}
 use Rattle.tf_expr_syntax.specs.ExprTree.{entries_view as arguments_view}
 use Rattle.tf_provider_protocol.specs.Schema.{attribute_of}
-use Rattle.tf_value.specs.Tree.{entries_view}
+use Rattle.tf_value_data.specs.Tree.{entries_view}
 use Rattle.tf_plan_object.specs.Bounded.{each_may_be_planned}
 use Rattle.tf_plan_object.specs.Object.{named_fault_of}
 use Rattle.tf_plan_object.proofs.Attributes.{IsSoFar}

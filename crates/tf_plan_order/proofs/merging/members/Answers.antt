@@ -5,7 +5,7 @@ use Rattle.tf_plan_order.proofs.InstanceOrder.{key_copied}
 use Rattle.tf_plan_order.specs.Members.{all_keys, recorded_keys, with_keys}
 use Rattle.tf_plan_order.specs.MemberViews.{keys_in}
 use Rattle.tf_plan_order.proofs.merging.members.Goals as goal
-use Rattle.tf_value.proofs.Copied.{copied}
+use Rattle.tf_value_data.proofs.Copied.{copied}
 use Rattle.tf_state_data.specs.Record.{record_of}
 
 pub returns : goal.returns

@@ -1,7 +1,7 @@
 -- the text so far, with what is left to show
 use Rattle.std.proofs.Common.{◌≡◌, ◌∷◌, ◌++◌, false, drop, string_bytes}
 use Rattle.tf_plan_text.specs.Shown.{shown_items, shown_entries}
-use Rattle.tf_value.specs.Tree.{items_view, entries_view}
+use Rattle.tf_value_data.specs.Tree.{items_view, entries_view}
 use Rattle.tf_plan_text.proofs.shown.+show.Given as goal
 
 abbrev pub invariant-show_items-loop-item : goal.invariant-show_items-loop-item

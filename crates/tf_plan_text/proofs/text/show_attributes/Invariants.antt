@@ -1,7 +1,7 @@
 -- the text so far, with the lines of the attributes that are left
 use Rattle.std.proofs.Common.{◌≡◌, ◌++◌, string_bytes}
 use Rattle.tf_plan_text.specs.Text.{attribute_lines}
-use Rattle.tf_value.specs.Tree.{entries_view}
+use Rattle.tf_value_data.specs.Tree.{entries_view}
 use Rattle.tf_plan_text.proofs.text.show_attributes.Given as goal
 
 abbrev pub invariant-loop-name : goal.invariant-loop-name

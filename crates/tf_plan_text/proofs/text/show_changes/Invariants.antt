@@ -2,7 +2,7 @@
 use Rattle.std.proofs.Common.{◌≡◌, ◌++◌, drop, string_bytes}
 use Rattle.std.specs.List.{flat_map}
 use Rattle.tf_plan_data.specs.Action.{names_of}
-use Rattle.tf_value.specs.Tree.{tree_of}
+use Rattle.tf_value_data.specs.Tree.{tree_of}
 use Rattle.tf_plan_text.specs.Text.{changed_line}
 use Rattle.tf_plan_text.proofs.text.show_changes.Given as goal
 

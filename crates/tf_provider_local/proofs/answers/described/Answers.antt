@@ -7,7 +7,7 @@ use Rattle.hex.specs.Hex.{encode_lower}
 use Rattle.md5.specs.Md5.{md5}
 use Rattle.sha1.specs.Sha1.{sha1}
 use Rattle.sha2.specs.Sha256.{sha256}
-use Rattle.tf_value.specs.Tree.{Tree}
+use Rattle.tf_value_data.specs.Tree.{Tree}
 use Rattle.tf_provider_local.specs.Answers.{with_text}
 use Rattle.tf_provider_local.proofs.answers.described.Goals as goal
 

@@ -1,8 +1,8 @@
 use Rattle.std.proofs.Common.{◌≡◌, rules, ap, ◌∙◌, refl}
 use Rattle.std.specs.Prelude.{string_bytes}
-use Rattle.tf_value.specs.declared.value.Value.{Text, the_lemmas}
-use Rattle.tf_value.specs.Tree.{map as mapped, text, put, tree_of, entries_view}
-use Rattle.tf_value.proofs.Views.{entries_view-insert_entry, tree_of-Map}
+use Rattle.tf_value_data.specs.declared.value.Value.{Text, the_lemmas}
+use Rattle.tf_value_data.specs.Tree.{map as mapped, text, put, tree_of, entries_view}
+use Rattle.tf_value_data.proofs.Views.{entries_view-insert_entry, tree_of-Map}
 use Rattle.tf_provider_local.proofs.answers.with_text.Goals as goal
 
 pub returns-in_ok-insert-in-Map : goal.returns-in_ok-insert-in-Map

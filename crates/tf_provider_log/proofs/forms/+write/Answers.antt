@@ -5,8 +5,8 @@ use Rattle.std.specs.Map.{keys_of}
 use Rattle.std.specs.String.{string_cmp}
 use Rattle.serde_json.specs.View.{members_view}
 use Rattle.serde_json.proofs.Views.{members_view-insert_entry}
-use Rattle.tf_value.specs.Tree.{AreHeldEntries, tree_of, entries_view}
-use Rattle.tf_value.proofs.Views.{Entry}
+use Rattle.tf_value_data.specs.Tree.{AreHeldEntries, tree_of, entries_view}
+use Rattle.tf_value_data.proofs.Views.{Entry}
 use Rattle.tf_value_json.proofs.JsonForms.{put_last}
 use Rattle.tf_provider_log.specs.Form.{value_form}
 use Rattle.tf_provider_log.proofs.Written.{written_members, written_members-is, written_all_items}

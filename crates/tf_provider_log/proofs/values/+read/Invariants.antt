@@ -1,8 +1,8 @@
 use Rattle.std.proofs.Common.{◌≡◌, take, map}
 use Rattle.serde_json.specs.View.{view}
 use Rattle.tf_value_json.specs.Json.{tree_from}
-use Rattle.tf_value.specs.Tree.{tree_of, entries_view}
-use Rattle.tf_value.proofs.Views.{ShownBefore}
+use Rattle.tf_value_data.specs.Tree.{tree_of, entries_view}
+use Rattle.tf_value_data.proofs.Views.{ShownBefore}
 use Rattle.tf_provider_log.proofs.values.+read.Given as goal
 
 abbrev pub invariant-items_from-loop-item : goal.invariant-items_from-loop-item

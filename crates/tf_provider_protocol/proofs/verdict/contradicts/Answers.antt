@@ -1,7 +1,7 @@
 use Rattle.std.proofs.Common.{◌≡◌, Some, not, ap}
-use Rattle.tf_value.specs.Tree.{tree_of, part_at}
-use Rattle.tf_value.specs.Refinement.{refined}
-use Rattle.tf_value.proofs.Refining.{refined-answer}
+use Rattle.tf_value_data.specs.Tree.{tree_of, part_at}
+use Rattle.tf_value_data.specs.Refinement.{refined}
+use Rattle.tf_value_data.proofs.Refining.{refined-answer}
 use Rattle.tf_provider_protocol.proofs.verdict.contradicts.Goals as goal
 
 pub returns-in-Some-Some : goal.returns-in-Some-Some

@@ -1,6 +1,6 @@
 use Rattle.std.proofs.Common.{◌≡◌, map, drop}
 use Rattle.std.specs.List.{position_from}
-use Rattle.tf_value.specs.Tree.{tree_of}
+use Rattle.tf_value_data.specs.Tree.{tree_of}
 use Rattle.tf_provider_protocol.specs.Schema.{attribute_of}
 use Rattle.tf_provider_protocol.specs.Verdict.{contradicts_at}
 use Rattle.tf_provider_protocol.proofs.verdict.first_contradiction.Given as goal

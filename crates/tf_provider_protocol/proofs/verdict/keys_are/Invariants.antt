@@ -1,5 +1,5 @@
 use Rattle.std.proofs.Common.{◌≡◌, length, map}
-use Rattle.tf_value.specs.Tree.{entries_view, keys_of}
+use Rattle.tf_value_data.specs.Tree.{entries_view, keys_of}
 use Rattle.tf_provider_protocol.specs.Schema.{attribute_of}
 use Rattle.tf_provider_protocol.specs.Verdict.{same_names}
 use Rattle.tf_provider_protocol.proofs.verdict.keys_are.Given as goal

@@ -3,7 +3,7 @@ use Rattle.std.specs.Prelude.{option_and_then}
 use Rattle.serde_json.specs.View.{members_view}
 use Rattle.tf_state.specs.Reading.{output_in, values_in}
 use Rattle.tf_state_data.specs.State.{outputs_of}
-use Rattle.tf_value.specs.Tree.{put, tree_of}
+use Rattle.tf_value_data.specs.Tree.{put, tree_of}
 use Rattle.tf_state.proofs.Loops.{outputs_of-insert_entry}
 use Rattle.tf_state.proofs.reading.read_each_output.Goals as goal
 

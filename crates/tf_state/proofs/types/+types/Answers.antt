@@ -1,7 +1,7 @@
 use Rattle.std.proofs.Common.{◌≡◌, length, sym, ◌∙◌, arith, rules}
 use Rattle.std.proofs.lemmas.List.{drop_all}
 use Rattle.tf_state.specs.Types.{item_types, entry_types}
-use Rattle.tf_value.specs.Tree.{items_view, entries_view}
+use Rattle.tf_value_data.specs.Tree.{items_view, entries_view}
 use Rattle.tf_value_json.proofs.Sent.{array_sent, object_sent}
 use Rattle.tf_state.proofs.Lengths.{item_types-len, entry_types-len}
 use Rattle.tf_state.proofs.types.+types.Goals as goal

@@ -1,7 +1,7 @@
 use Rattle.std.proofs.Common.{drop}
 use Rattle.serde_json.specs.Events.{SendsItems, SendsMembers}
 use Rattle.tf_state.specs.Types.{item_types, entry_types}
-use Rattle.tf_value.specs.Tree.{items_view, entries_view}
+use Rattle.tf_value_data.specs.Tree.{items_view, entries_view}
 use Rattle.tf_value_json.proofs.Sent.{GoesOn}
 use Rattle.tf_state.proofs.types.+types.Given as goal
 

@@ -2,8 +2,8 @@ use Rattle.std.proofs.Common.{◌≡◌, string_bytes, sym, ap, refl, ◌∙◌}
 use Rattle.std.specs.Prelude.{option_and_then}
 use Rattle.serde_json.specs.View.{members_view}
 use Rattle.tf_state.specs.Reading.{value_in, values_in}
-use Rattle.tf_value.specs.Tree.{put, tree_of, entries_view}
-use Rattle.tf_value.proofs.Views.{entries_view-insert_entry}
+use Rattle.tf_value_data.specs.Tree.{put, tree_of, entries_view}
+use Rattle.tf_value_data.proofs.Views.{entries_view-insert_entry}
 use Rattle.tf_state.proofs.value_reading.read_values.Goals as goal
 
 pub loop-key-preserved : goal.loop-key-preserved

@@ -1,7 +1,7 @@
 -- What is read from here on, onto the values found, is what is read from the start.
 use Rattle.std.proofs.Common.{◌≡◌}
 use Rattle.serde_json.specs.View.{members_view}
-use Rattle.tf_value.specs.Tree.{no_entries, entries_view}
+use Rattle.tf_value_data.specs.Tree.{no_entries, entries_view}
 use Rattle.tf_state.specs.Reading.{value_in, values_in}
 use Rattle.tf_state.proofs.value_reading.read_values.Given as goal
 

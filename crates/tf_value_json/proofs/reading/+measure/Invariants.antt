@@ -1,8 +1,8 @@
 use Rattle.std.proofs.Common.{◌≡◌, ◌+◌, ◌-◌, ◌<◌, ◌^◌, min, max, drop}
 use Rattle.serde_json.specs.View.{items_view, members_view}
 use Rattle.tf_value_json.specs.Json.{items_from, entries_from}
-use Rattle.tf_value.specs.Measure.{weight_of_items, weight_of_entries, depth_of_items, depth_of_entries}
-use Rattle.tf_value.specs.Tree.{AreSorted, AreSortedEntries}
+use Rattle.tf_value_data.specs.Measure.{weight_of_items, weight_of_entries, depth_of_items, depth_of_entries}
+use Rattle.tf_value_data.specs.Tree.{AreSorted, AreSortedEntries}
 use Rattle.tf_value_json.proofs.reading.+measure.Given as goal
 
 abbrev pub invariant-measure_of_items-loop-item : goal.invariant-measure_of_items-loop-item

@@ -1,7 +1,7 @@
 use Rattle.std.proofs.Common.{◌∙◌}
 use Rattle.serde_json.specs.View.{view}
 use Rattle.tf_value_json.specs.Json.{tree_from}
-use Rattle.tf_value.proofs.Views.{shown_more, shown_all}
+use Rattle.tf_value_data.proofs.Views.{shown_more, shown_all}
 use Rattle.tf_value_json.proofs.JsonForms.{read_members-is, read_all_items}
 use Rattle.tf_value_json.proofs.reading.+read.Goals as goal
 

@@ -1,7 +1,7 @@
 use Rattle.std.proofs.Common.{◌≡◌, drop}
 use Rattle.serde_json.specs.View.{items_view, members_view}
 use Rattle.tf_value_json.specs.Json.{items_from, entries_from}
-use Rattle.tf_value.specs.Known.{known_items, known_entries}
+use Rattle.tf_value_data.specs.Known.{known_items, known_entries}
 use Rattle.tf_value_json.proofs.reading.+whole.Given as goal
 
 abbrev pub invariant-are_whole-loop-item : goal.invariant-are_whole-loop-item

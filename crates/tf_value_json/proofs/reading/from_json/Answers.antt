@@ -1,9 +1,9 @@
 use Rattle.std.proofs.Common.{◌≡◌, true, rules}
 use Rattle.serde_json.specs.View.{view}
 use Rattle.tf_value_json.specs.Json.{tree_from}
-use Rattle.tf_value.specs.Known.{known}
-use Rattle.tf_value.specs.Measure.{IsWithinLimits}
-use Rattle.tf_value.specs.Tree.{tree_of}
+use Rattle.tf_value_data.specs.Known.{known}
+use Rattle.tf_value_data.specs.Measure.{IsWithinLimits}
+use Rattle.tf_value_data.specs.Tree.{tree_of}
 use Rattle.tf_value_json.proofs.InOrder.{read_stored}
 use Rattle.tf_value_json.proofs.reading.from_json.Goals as goal
 

@@ -1,6 +1,6 @@
 use Rattle.std.proofs.Common.{◌≡◌, length, sym, ◌∙◌, arith, rules}
 use Rattle.std.proofs.lemmas.List.{drop_all}
-use Rattle.tf_value.specs.Tree.{items_view, entries_view}
+use Rattle.tf_value_data.specs.Tree.{items_view, entries_view}
 use Rattle.tf_value_json.specs.Json.{items_data, entries_data}
 use Rattle.tf_value_json.proofs.JsonForms.{items_len-is, members_len-is}
 use Rattle.tf_value_json.proofs.Sent.{array_sent, object_sent}

@@ -1,6 +1,6 @@
 use Rattle.std.proofs.Common.{drop}
 use Rattle.serde_json.specs.Events.{SendsItems, SendsMembers}
-use Rattle.tf_value.specs.Tree.{items_view, entries_view}
+use Rattle.tf_value_data.specs.Tree.{items_view, entries_view}
 use Rattle.tf_value_json.specs.Json.{items_data, entries_data}
 use Rattle.tf_value_json.proofs.Sent.{GoesOn}
 use Rattle.tf_value_json.proofs.sending.+send.Given as goal

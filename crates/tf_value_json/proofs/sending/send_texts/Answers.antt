@@ -1,5 +1,5 @@
 use Rattle.std.proofs.Common.{◌≡◌, length, sym, ◌∙◌, rules}
-use Rattle.tf_value.specs.Tree.{texts_view}
+use Rattle.tf_value_data.specs.Tree.{texts_view}
 use Rattle.tf_value_json.specs.Json.{texts_data}
 use Rattle.tf_value_json.proofs.JsonForms.{texts_len-is}
 use Rattle.tf_value_json.proofs.Sent.{array_sent}

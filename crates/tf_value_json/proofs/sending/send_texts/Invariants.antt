@@ -1,6 +1,6 @@
 use Rattle.serde_json.specs.Events.{SendsItems}
 use Rattle.tf_value_json.specs.Json.{texts_data}
-use Rattle.tf_value.specs.Tree.{texts_view}
+use Rattle.tf_value_data.specs.Tree.{texts_view}
 use Rattle.tf_value_json.proofs.Sent.{GoesOn}
 use Rattle.tf_value_json.proofs.sending.send_texts.Given as goal
 

@@ -5,9 +5,9 @@ use Rattle.std.specs.Map.{keys_of}
 use Rattle.std.specs.String.{string_cmp}
 use Rattle.serde_json.specs.View.{members_view}
 use Rattle.serde_json.proofs.Views.{members_view-insert_entry}
-use Rattle.tf_value.specs.Tree.{AreHeldEntries, tree_of, entries_view}
+use Rattle.tf_value_data.specs.Tree.{AreHeldEntries, tree_of, entries_view}
 use Rattle.tf_value_json.specs.Json.{value_data}
-use Rattle.tf_value.proofs.Views.{Entry}
+use Rattle.tf_value_data.proofs.Views.{Entry}
 use Rattle.tf_value_json.proofs.JsonForms.{written_entries, written_entries-is, written_all_items, put_last}
 use Rattle.tf_value_json.proofs.writing.+write.Goals as goal
 

@@ -1,8 +1,8 @@
 use Rattle.std.proofs.Common.{◌≡◌, List, ◌++◌, take, drop, map}
 use Rattle.serde_json.specs.View.{view, members_view}
 use Rattle.tf_value_json.specs.Json.{value_data}
-use Rattle.tf_value.specs.Tree.{AreHeld, AreHeldEntries, tree_of, items_view, entries_view}
-use Rattle.tf_value.proofs.Views.{Entry}
+use Rattle.tf_value_data.specs.Tree.{AreHeld, AreHeldEntries, tree_of, items_view, entries_view}
+use Rattle.tf_value_data.proofs.Views.{Entry}
 use Rattle.tf_value_json.proofs.JsonForms.{written_entries}
 use Rattle.tf_value_json.proofs.writing.+write.Given as goal
 

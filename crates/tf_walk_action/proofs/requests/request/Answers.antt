@@ -4,13 +4,13 @@ use Rattle.tf_config_address.specs.ResourceAddr.{addr_of}
 use Rattle.tf_config_address.specs.ObjectId.{instance_key_of}
 use Rattle.tf_config_data.specs.Config.{block_at}
 use Rattle.tf_config_data.specs.Names.{a_block, meant_at, places}
-use Rattle.tf_expand.proofs.Places.{all_places}
-use Rattle.tf_expand.specs.Resolved.{environment}
-use Rattle.tf_expand.specs.Views.{shapes_of, resolved_names_of}
-use Rattle.tf_expand.specs.declared.table.ModuleParts.{ModuleParts}
+use Rattle.tf_expand_keys.proofs.Places.{all_places}
+use Rattle.tf_expand_keys.specs.Resolved.{environment}
+use Rattle.tf_expand_keys.specs.Views.{shapes_of, resolved_names_of}
+use Rattle.tf_expand_keys.specs.declared.table.ModuleParts.{ModuleParts}
 use Rattle.tf_config_names.specs.Table.{names_in}
 use Rattle.tf_plan_object.specs.Instance.{instance_object, instance_of}
-use Rattle.tf_value.specs.Tree.{entries_view}
+use Rattle.tf_value_data.specs.Tree.{entries_view}
 use Rattle.tf_walk_names.specs.Wanted.{instance_names}
 use Rattle.tf_walk_action.proofs.Requesting.{requested, resource_below}
 use Rattle.tf_walk_names.proofs.OutputValues.{standing_same}

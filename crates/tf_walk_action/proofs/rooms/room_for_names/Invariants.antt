@@ -2,7 +2,7 @@
 use Rattle.std.proofs.Common.{◌≡◌, ◌≤◌, ◌+◌, ℕ, true, length}
 use Rattle.std.specs.List.{list_all}
 use Rattle.std.specs.Prelude.{nat_le}
-use Rattle.tf_value.specs.Tree.{keys_of, entries_view}
+use Rattle.tf_value_data.specs.Tree.{keys_of, entries_view}
 use Rattle.tf_walk_action.proofs.rooms.room_for_names.Given as goal
 
 abbrev pub invariant-loop-name : goal.invariant-loop-name

@@ -1,16 +1,16 @@
 use Rattle.std.proofs.Common.{◌≡◌, ◌<◌, ℕ, List, IfOk, length, sym, ap, subst, ◌∙◌}
 use Rattle.std.specs.List.{AllByRecursion}
 use Rattle.tf_config_data.specs.Names.{places}
-use Rattle.tf_expand.proofs.Places.{all_places}
-use Rattle.tf_expand.specs.Resolved.{environment}
-use Rattle.tf_expand.specs.Views.{shapes_of, resolved_names_of}
-use Rattle.tf_expand.specs.declared.table.ModuleParts.{ModuleParts}
+use Rattle.tf_expand_keys.proofs.Places.{all_places}
+use Rattle.tf_expand_keys.specs.Resolved.{environment}
+use Rattle.tf_expand_keys.specs.Views.{shapes_of, resolved_names_of}
+use Rattle.tf_expand_keys.specs.declared.table.ModuleParts.{ModuleParts}
 use Rattle.tf_config_names.specs.Table.{names_in}
 use Rattle.tf_expr_eval.specs.ExprMeaning.{meaning}
 use Rattle.tf_expr_operators.specs.Answer.{Answers}
 use Rattle.tf_expr_syntax.specs.ExprNames.{named_by}
 use Rattle.tf_expr_syntax.specs.ExprTree.{tree_of}
-use Rattle.tf_value.specs.Tree.{entries_view}
+use Rattle.tf_value_data.specs.Tree.{entries_view}
 use Rattle.tf_walk_names.proofs.OutputValues.{answered, standing_same}
 use Rattle.tf_walk_names.proofs.Shared.{answered_each}
 use Rattle.tf_walk_names.specs.Resolving.{without_sets}

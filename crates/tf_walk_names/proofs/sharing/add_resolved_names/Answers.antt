@@ -1,12 +1,12 @@
 use Rattle.std.proofs.Common.{◌≡◌, ◌<◌, ℕ, Bool, true, List, length, sym, subst, ◌∙◌, arith}
 use Rattle.std.specs.Prelude.{◌↔◌}
-use Rattle.tf_expand.specs.Module.{IsModule}
-use Rattle.tf_expand.specs.Views.{shapes_of, resolved_names_of}
+use Rattle.tf_expand_keys.specs.Module.{IsModule}
+use Rattle.tf_expand_keys.specs.Views.{shapes_of, resolved_names_of}
 use Rattle.tf_graph.proofs.Solving.{all_by_weaker}
 use Rattle.tf_graph.specs.NodeSet.{has}
 use Rattle.tf_config_names.specs.Needs.{order_in}
 use Rattle.tf_config_names.specs.Table.{names_in}
-use Rattle.tf_value.specs.Tree.{entries_view}
+use Rattle.tf_value_data.specs.Tree.{entries_view}
 use Rattle.tf_walk_names.proofs.Shared.{each_stands, others_there, same_answered}
 use Rattle.tf_walk_names.proofs.Wanting.{wanted_closed}
 use Rattle.tf_walk_names.specs.Wanted.{IsWanted}

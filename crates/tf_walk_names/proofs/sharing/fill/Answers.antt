@@ -1,6 +1,6 @@
 use Rattle.std.proofs.Common.{◌+◌, length, ap, ◌∙◌}
-use Rattle.tf_expand.specs.Views.{resolved_names_of}
-use Rattle.tf_expand.specs.declared.resolved.Resolved.TheVariants.{Nothing}
+use Rattle.tf_expand_keys.specs.Views.{resolved_names_of}
+use Rattle.tf_expand_keys.specs.declared.resolved.Resolved.TheVariants.{Nothing}
 use Rattle.tf_walk_names.proofs.Shared.{nothing_added, one_longer}
 use Rattle.tf_walk_names.proofs.sharing.fill.Goals as goal
 

@@ -1,5 +1,5 @@
 use Rattle.std.proofs.Common.{◌≡◌, ℕ, length}
-use Rattle.tf_expand.specs.Views.{resolved_names_of}
+use Rattle.tf_expand_keys.specs.Views.{resolved_names_of}
 use Rattle.tf_walk_names.proofs.sharing.fill.Given as goal
 
 abbrev pub invariant-loop : goal.invariant-loop

@@ -6,9 +6,9 @@ use Rattle.tf_graph.specs.NodeSet.{has}
 use Rattle.tf_graph.specs.Order.{IsInOrder}
 use Rattle.tf_config_names.specs.Needs.{order_in}
 use Rattle.tf_config_names.specs.Table.{names_in}
-use Rattle.tf_expand.specs.Module.{IsModule}
-use Rattle.tf_expand.specs.declared.table.ModuleParts.{ModuleParts}
-use Rattle.tf_expand.proofs.Marking.{empty_marks, written_back}
+use Rattle.tf_expand_keys.specs.Module.{IsModule}
+use Rattle.tf_expand_keys.specs.declared.table.ModuleParts.{ModuleParts}
+use Rattle.tf_expand_keys.proofs.Marking.{empty_marks, written_back}
 use Rattle.tf_walk_names.proofs.Wanting.{Spreads, spread_start, spread_more, spread_all}
 use Rattle.tf_walk_names.proofs.wanted.wanted_by.Goals as goal
 

@@ -1,12 +1,12 @@
 use Rattle.std.proofs.Common.{subst}
-use Rattle.tf_expand.specs.Module.{IsModule}
-use Rattle.tf_expand.specs.Views.{shapes_of}
+use Rattle.tf_expand_keys.specs.Module.{IsModule}
+use Rattle.tf_expand_keys.specs.Views.{shapes_of}
 use Rattle.tf_graph.specs.NodeSet.{has}
 use Rattle.tf_config_names.specs.Table.{names_in}
 use Rattle.tf_walk_outputs.proofs.Done.{output_no_set, done_faulted, done_valued}
 use Rattle.tf_walk_outputs.specs.Keeping.{done_of}
 use Rattle.tf_expr_syntax.specs.ExprTree.{tree_of}
-use Rattle.tf_value.specs.Tree.{entries_view}
+use Rattle.tf_value_data.specs.Tree.{entries_view}
 use Rattle.tf_walk_outputs.proofs.ending.end_output.Goals as goal
 
 pub within_limits-requires : goal.within_limits-requires

@@ -1,6 +1,6 @@
 use Rattle.std.proofs.Common.{◌≡◌, ◌++◌, ◌∷◌, List, [], length, string_bytes, sym, ap, subst, arith}
 use Rattle.std.specs.Vec.Iter.{into_iter_items}
-use Rattle.tf_expand.specs.Views.{shapes_of}
+use Rattle.tf_expand_keys.specs.Views.{shapes_of}
 use Rattle.tf_graph.specs.NodeSet.{has}
 use Rattle.tf_config_names.specs.Table.{names_in}
 use Rattle.tf_walk_outputs.proofs.Done.{EndsWith, ends_start, ends_more, ends_all, none_listed, one_longer, rooms_less, table_more}
@@ -10,7 +10,7 @@ use Rattle.tf_walk_outputs.specs.declared.output_buffers.OutputBuffers.{OutputBu
 use Rattle.tf_walk_names.proofs.Shared.{none_answered}
 use Rattle.tf_state_data.specs.State.{outputs_of}
 use Rattle.tf_expr_syntax.specs.ExprTree.{tree_of}
-use Rattle.tf_value.specs.Tree.{entries_view}
+use Rattle.tf_value_data.specs.Tree.{entries_view}
 use Rattle.tf_walk_outputs.proofs.ending.renew_outputs.Goals as goal
 
 pub loop-room-init : goal.loop-room-init

@@ -2,15 +2,15 @@
 use Rattle.std.proofs.Common.{◌≤◌, ◌+◌, length}
 use Rattle.std.specs.Prelude.{vec_capacity}
 use Rattle.std.specs.Vec.Iter.{into_iter_items}
-use Rattle.tf_expand.specs.Views.{shapes_of, resolved_names_of}
+use Rattle.tf_expand_keys.specs.Views.{shapes_of, resolved_names_of}
 use Rattle.tf_graph.specs.NodeSet.{has}
 use Rattle.tf_config_names.specs.Table.{names_in}
 use Rattle.tf_walk_outputs.proofs.Done.{EndsWith}
 use Rattle.tf_walk_outputs.specs.Buffers.{HavePlaces, outputs_in}
 use Rattle.tf_walk_names.specs.Resolving.{AreResolvedSoFar}
 use Rattle.tf_state_data.specs.State.{outputs_of}
-use Rattle.tf_value.specs.Stored.{IsTable}
-use Rattle.tf_value.specs.Tree.{entries_view}
+use Rattle.tf_value_data.specs.Stored.{IsTable}
+use Rattle.tf_value_data.specs.Tree.{entries_view}
 use Rattle.tf_walk_outputs.proofs.ending.renew_outputs.Given as goal
 
 abbrev pub invariant-loop-room : goal.invariant-loop-room

@@ -1,11 +1,11 @@
 use Rattle.std.proofs.Common.{◌≡◌, ◌↔◌, ◌∙◌, Bool, true, IsTrue, ap, sym, subst}
-use Rattle.tf_value.proofs.Storing.{within-true}
-use Rattle.tf_value.proofs.WithNulls.{nulls-known, nulls-stored}
-use Rattle.tf_value.specs.Known.{known}
-use Rattle.tf_value.specs.Measure.{IsWithinLimits}
-use Rattle.tf_value.specs.Sets.{has_no_set}
-use Rattle.tf_value.specs.Stored.{MayBeStored, may_be_planned}
-use Rattle.tf_value.specs.Tree.{Tree, tree_of}
+use Rattle.tf_value_data.proofs.Storing.{within-true}
+use Rattle.tf_value_data.proofs.WithNulls.{nulls-known, nulls-stored}
+use Rattle.tf_value_data.specs.Known.{known}
+use Rattle.tf_value_data.specs.Measure.{IsWithinLimits}
+use Rattle.tf_value_data.specs.Sets.{has_no_set}
+use Rattle.tf_value_data.specs.Stored.{MayBeStored, may_be_planned}
+use Rattle.tf_value_data.specs.Tree.{Tree, tree_of}
 use Rattle.tf_walk_outputs.proofs.ending.within_limits.Goals as goal
 
 planned : (t : Tree) (b : Bool) → b ≡ true → (IsTrue b ↔ IsWithinLimits t) → has_no_set t ≡ true → may_be_planned t ≡ true

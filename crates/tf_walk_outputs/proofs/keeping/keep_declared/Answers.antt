@@ -2,7 +2,7 @@ use Rattle.std.proofs.Common.{◌∙◌, sym, ap, ap₂, string_bytes}
 use Rattle.tf_walk_outputs.proofs.Done.{null_left, other_put, outputs_of-insert_entry}
 use Rattle.tf_walk_outputs.proofs.Kept.{key_found}
 use Rattle.tf_state_data.specs.State.{outputs_of}
-use Rattle.tf_value.specs.Tree.{put, tree_of}
+use Rattle.tf_value_data.specs.Tree.{put, tree_of}
 use Rattle.tf_walk_outputs.proofs.keeping.keep_declared.Goals as goal
 
 pub returns-in_ok-insert : goal.returns-in_ok-insert

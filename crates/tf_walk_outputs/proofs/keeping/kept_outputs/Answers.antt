@@ -3,7 +3,7 @@ use Rattle.tf_walk_outputs.proofs.Kept.{kept_all, kept_next, kept_table}
 use Rattle.tf_walk_outputs.specs.Outputs.{kept_entries}
 use Rattle.tf_state_data.specs.State.{outputs_of}
 use Rattle.tf_expr_syntax.specs.ExprTree.{entries_view}
-use Rattle.tf_value.specs.Stored.{IsTable}
+use Rattle.tf_value_data.specs.Stored.{IsTable}
 use Rattle.tf_walk_outputs.proofs.keeping.kept_outputs.Goals as goal
 
 pub loop-name-preserved : goal.loop-name-preserved

@@ -1,7 +1,7 @@
 use Rattle.std.proofs.Common.{◌∙◌, refl, sym, ap, string_bytes}
 use Rattle.tf_walk_outputs.proofs.Done.{kept_null, kept_value, outputs_of-insert_entry, outputs_of-removed}
 use Rattle.tf_state_data.specs.State.{outputs_of}
-use Rattle.tf_value.specs.Tree.{tree_of}
+use Rattle.tf_value_data.specs.Tree.{tree_of}
 use Rattle.tf_walk_outputs.proofs.keeping.put_value.Goals as goal
 
 pub returns-then-is_null : goal.returns-then-is_null

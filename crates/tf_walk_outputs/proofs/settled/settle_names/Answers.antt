@@ -1,6 +1,6 @@
 use Rattle.std.proofs.Common.{Contains, ap, subst, ◌∙◌}
-use Rattle.tf_expand.specs.Module.{IsModule}
-use Rattle.tf_expand.specs.declared.table.ModuleParts.{ModuleParts}
+use Rattle.tf_expand_keys.specs.Module.{IsModule}
+use Rattle.tf_expand_keys.specs.declared.table.ModuleParts.{ModuleParts}
 use Rattle.tf_graph.specs.NodeSet.{has}
 use Rattle.tf_config_names.specs.Needs.{order_in}
 use Rattle.tf_config_names.specs.Table.{names_in}

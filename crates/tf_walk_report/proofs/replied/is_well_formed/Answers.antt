@@ -1,7 +1,7 @@
 use Rattle.std.proofs.Common.{◌≡◌, true, ◌&&◌, sym, ap, ◌∙◌}
 use Rattle.std.specs.List.{list_all}
 use Rattle.tf_provider_protocol.specs.Verdict.{has_attributes}
-use Rattle.tf_value.specs.Tree.{tree_of}
+use Rattle.tf_value_data.specs.Tree.{tree_of}
 use Rattle.tf_walk_action.specs.Storable.{has_stored_attributes}
 use Rattle.tf_walk_report.specs.Formed.{allowed_in}
 use Rattle.tf_walk_report.proofs.Formed.{stored-formed, not_stored-formed}

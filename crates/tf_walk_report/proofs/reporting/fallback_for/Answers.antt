@@ -1,7 +1,7 @@
 use Rattle.std.proofs.Common.{ap, ◌∙◌}
-use Rattle.tf_value.proofs.WithNulls.{nulls-known}
-use Rattle.tf_value.specs.Known.{known}
-use Rattle.tf_value.specs.Tree.{tree_of}
+use Rattle.tf_value_data.proofs.WithNulls.{nulls-known}
+use Rattle.tf_value_data.specs.Known.{known}
+use Rattle.tf_value_data.specs.Tree.{tree_of}
 use Rattle.tf_walk_report.proofs.reporting.fallback_for.Goals as goal
 
 pub invariant_of-result : goal.invariant_of-result

@@ -8,8 +8,8 @@ use Rattle.tf_provider_protocol.specs.declared.request.Request.{Request}
 use Rattle.tf_provider_protocol.specs.declared.verdict.Verdict.{Verdict}
 use Rattle.tf_state.specs.Valid.{IsAttributes}
 use Rattle.tf_state_next.specs.Saved.{formed_in, left_by_destroy}
-use Rattle.tf_value.specs.Nulls.{with_nulls}
-use Rattle.tf_value.specs.Tree.{Tree, tree_of}
+use Rattle.tf_value_data.specs.Nulls.{with_nulls}
+use Rattle.tf_value_data.specs.Tree.{Tree, tree_of}
 use Rattle.tf_walk_action.proofs.Storable.{planned-there, planned-stored}
 use Rattle.tf_walk_action.specs.Storable.{has_stored_attributes}
 use Rattle.tf_walk_report.specs.ActionReport.{IsAdded}

@@ -1,9 +1,9 @@
 use Rattle.std.proofs.Common.{◌∙◌, ◌<◌, ℕ, Bool, List, map, sym, ap, subst}
 use Rattle.tf_plan_data.specs.Action.{action_of}
 use Rattle.tf_plan_data.specs.declared.action.Action.{Action}
-use Rattle.tf_expand.specs.Views.{shapes_of}
-use Rattle.tf_expand.specs.declared.shape.InstanceKeys.{InstanceKeys}
-use Rattle.tf_expand.specs.declared.table.ModuleParts.{ModuleParts}
+use Rattle.tf_expand_keys.specs.Views.{shapes_of}
+use Rattle.tf_expand_keys.specs.declared.shape.InstanceKeys.{InstanceKeys}
+use Rattle.tf_expand_keys.specs.declared.table.ModuleParts.{ModuleParts}
 use Rattle.tf_graph.specs.NodeSet.{has}
 use Rattle.tf_graph.specs.Solutions.{seen_by}
 use Rattle.tf_config_names.specs.Table.{names_in}
@@ -14,7 +14,7 @@ use Rattle.tf_walk_outputs.specs.Buffers.{outputs_in}
 use Rattle.tf_walk_outputs.specs.Settled.{AreSettled}
 use Rattle.tf_plan_data.specs.Plan.{plan_of}
 use Rattle.tf_state_data.specs.State.{outputs_of}
-use Rattle.tf_value.specs.Tree.{entries_view}
+use Rattle.tf_value_data.specs.Tree.{entries_view}
 use Rattle.tf_walk_report.specs.Good.{are_good_at}
 use Rattle.tf_walk_report.proofs.Complete.{settled-same}
 use Rattle.tf_walk_report.proofs.settling.outputs_after.Goals as goal

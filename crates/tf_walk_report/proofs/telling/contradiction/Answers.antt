@@ -2,12 +2,12 @@ use Rattle.std.proofs.Common.{◌≡◌, ◌∙◌, sym, ap, ap₂, ◌+◌, tru
 use Rattle.std.proofs.lemmas.Bool.Decides.{nat_tests}
 use Rattle.std.specs.Prelude.{Some, nat_le, ◌++◌, codes, string_len, string_capacity, slice_index_or, []}
 use Rattle.std.specs.List.{list_all}
-use Rattle.tf_value.specs.Tree.{keys_of, entries_view, tree_of}
-use Rattle.tf_value.specs.Tree as tree
-use Rattle.tf_value.proofs.Views.{tree_of-Map}
+use Rattle.tf_value_data.specs.Tree.{keys_of, entries_view, tree_of}
+use Rattle.tf_value_data.specs.Tree as tree
+use Rattle.tf_value_data.proofs.Views.{tree_of-Map}
 use Rattle.tf_walk_report.specs.Diagnostics.{name_at}
 use Rattle.tf_walk_action.specs.Room.{message_fits}
-use Rattle.tf_value.proofs.Conjunction.{and-second}
+use Rattle.tf_value_data.proofs.Conjunction.{and-second}
 use Rattle.tf_walk_report.proofs.Named.{named-there, holds-there, named-beyond, pushed}
 use Rattle.tf_walk_report.proofs.telling.contradiction.Goals as goal
 

@@ -21,7 +21,7 @@ use Rattle.tf_provider_protocol.specs.declared.request.Op.{Op}
 use Rattle.tf_state.specs.Valid.{IsValid}
 use Rattle.tf_state_data.specs.State.{StateView, outputs_of, state_of}
 use Rattle.tf_expr_syntax.specs.ExprTree as expr
-use Rattle.tf_value.specs.Tree.{Entries}
+use Rattle.tf_value_data.specs.Tree.{Entries}
 use Rattle.tf_walk_report.specs.Events.{events}
 use Rattle.tf_walk_report.specs.Reserved.{applied_addrs}
 use Rattle.tf_walk_report.specs.Outcomes.{excuses_from, good_totals, outcome_of}

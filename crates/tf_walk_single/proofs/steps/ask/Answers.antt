@@ -6,7 +6,7 @@ use Rattle.tf_plan_data.specs.Action.{ActionView, action_of}
 use Rattle.tf_plan_data.specs.Fits.{IsDeclared}
 use Rattle.tf_plan_data.specs.Plan.{plan_of}
 use Rattle.tf_plan_data.specs.Served.{IsServedBy}
-use Rattle.tf_value.specs.Tree.{Tree}
+use Rattle.tf_value_data.specs.Tree.{Tree}
 use Rattle.tf_walk_action.proofs.Calling.{read_at, slice_get-map}
 use Rattle.tf_walk_action.specs.Asked.{op_of}
 use Rattle.tf_walk_action.specs.AskedBy.{asked_by}

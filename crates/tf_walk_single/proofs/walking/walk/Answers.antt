@@ -1,7 +1,7 @@
 use Rattle.std.proofs.Common.{◌≡◌, ◌<◌, ℕ, true, length, Some, map, option_map, set, ap, sym, ◌∙◌, arith}
 use Rattle.std.proofs.lemmas.List.{length-map}
 use Rattle.std.proofs.Math.ListN.{length-set}
-use Rattle.tf_value.proofs.Conjunction.{and-first}
+use Rattle.tf_value_data.proofs.Conjunction.{and-first}
 use Rattle.tf_claim.specs.Ledger.{Ledger, is_free, stage_in, moved}
 use Rattle.tf_claim.specs.declared.book.Stage.TheVariants as stage
 use Rattle.tf_graph.specs.Digraph.{Digraph}

@@ -1,5 +1,5 @@
 use Rattle.std.proofs.Common.{ap, ◌∙◌, Some, sym}
-use Rattle.tf_value.specs.Tree.{text, tree_of}
+use Rattle.tf_value_data.specs.Tree.{text, tree_of}
 use Rattle.tf_expr_operators.specs.Answer.{is_unknown, item_behind}
 use Rattle.tf_expr_operators.specs.Joining.{text_of, joined_value}
 use Rattle.tf_expr_operators.proofs.Trees.{tree_of-Int, tree_of-Bool, tree_of-Unknown, misfit-of}

@@ -3,7 +3,7 @@ use denote.Param.Send.{sendable}
 use denote.Param.Sent.{Syncs}
 use Rattle.std.proofs.Crossing.{crosses}
 use Rattle.std.proofs.MapsCrossing as maps
-use Rattle.tf_value.proofs.value.Value.TheLaws.TheKnot as value
+use Rattle.tf_value_data.proofs.value.Value.TheLaws.TheKnot as value
 use Rattle.tf_recovery.proofs.previewing.preview_replayed.OwnLists as lists
 
 pub syncs-part-1-1 : Syncs lists.part-1-1

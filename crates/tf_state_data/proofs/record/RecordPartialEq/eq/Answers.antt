@@ -9,7 +9,7 @@ use Rattle.tf_config_address.proofs.EqualIds.{object_ids_equal}
 use Rattle.tf_state_data.proofs.Equal.{passed, failed, dependencies_equal}
 use Rattle.tf_state_data.proofs.record.RecordPartialEq.eq.Goals as goal
 use Rattle.tf_state_data.proofs.record.RecordPartialEq.eq.Goals.{then-eq, else-eq, then-eq-2, else-eq-2, then-self-other, else-self-other, then-self-other-2, else-self-other-2, Joined-self-other-2}
-use Rattle.tf_value.specs.Tree.{same}
+use Rattle.tf_value_data.specs.Tree.{same}
 use mathlib.Core.Bool.{beq}
 
 -- the first two parts, three, four and five are the same

@@ -4,7 +4,7 @@ use Rattle.tf_state_data.specs.Resource.{ResourceView, resource_of}
 use Rattle.tf_state_data.specs.State.{StateView}
 use Rattle.tf_state_data.proofs.Copied.{copied, outputs_copied}
 use Rattle.tf_state_data.proofs.state.StateClone.clone.Goals as goal
-use Rattle.tf_value.specs.Tree.{Entries}
+use Rattle.tf_value_data.specs.Tree.{Entries}
 
 state_seen : {serial : ℕ} {p q v w : List ℕ} {o u : Entries} {rs ss : List ResourceView} → q ≡ p → w ≡ v → u ≡ o → ss ≡ rs
     → ◌≡◌ {A = StateView} (record { serial = serial; lineage = q; terraform_version = w; outputs = u; resources = ss }) (record { serial = serial; lineage = p; terraform_version = v; outputs = o; resources = rs })

@@ -9,7 +9,7 @@ use Rattle.tf_state_data.specs.State.{StateView, state_of}
 use Rattle.tf_state_data.proofs.Equal.{passed, failed, outputs_equal}
 use Rattle.tf_state_data.proofs.state.StatePartialEq.eq.Goals as goal
 use Rattle.tf_state_data.proofs.state.StatePartialEq.eq.Goals.{then-self-other, else-self-other, then-eq, else-eq, then-eq-2, else-eq-2, Joined-eq-2}
-use Rattle.tf_value.specs.Tree.{same_entries}
+use Rattle.tf_value_data.specs.Tree.{same_entries}
 
 -- the first two parts, three and four are the same
 abbrev two : StateView → StateView → Bool

@@ -3,7 +3,7 @@ use Rattle.tf_plan_data.specs.Action.{action_of}
 use Rattle.tf_config_address.specs.ObjectId.{instance_key_of}
 use Rattle.tf_config_names.specs.Table.{names_in}
 use Rattle.tf_state_data.specs.State.{state_of}
-use Rattle.tf_value.specs.Tree.{Tree, tree_of}
+use Rattle.tf_value_data.specs.Tree.{Tree, tree_of}
 use Rattle.tf_walk_action.proofs.Lookup.{object-here, object-later, object-none}
 use Rattle.tf_walk_action.specs.ResultViews.{action_results_of}
 use Rattle.tf_walk_action.specs.Outcome.{done_at}

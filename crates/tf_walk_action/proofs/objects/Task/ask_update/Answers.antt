@@ -9,8 +9,8 @@ use Rattle.tf_provider_protocol.specs.Meaning.{Asked}
 use Rattle.tf_provider_protocol.specs.Verdict.{asks_fully, has_attributes}
 use Rattle.tf_walk_action.proofs.Requesting.{resource_below}
 use Rattle.tf_walk_names.specs.Resolving.{is_resource}
-use Rattle.tf_value.specs.Tree.{tree_of}
-use Rattle.tf_value.specs.declared.value.Value.{Value}
+use Rattle.tf_value_data.specs.Tree.{tree_of}
+use Rattle.tf_value_data.specs.declared.value.Value.{Value}
 use Rattle.tf_walk_action.specs.Asked.{ignored_by}
 use Rattle.tf_walk_action.proofs.objects.Task.ask_update.Goals as goal
 

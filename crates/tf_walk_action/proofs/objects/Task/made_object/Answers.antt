@@ -1,6 +1,6 @@
 use Rattle.std.proofs.Common.{ap}
 use Rattle.tf_plan_data.specs.Action.{action_of}
-use Rattle.tf_expand.specs.Views.{shapes_of}
+use Rattle.tf_expand_keys.specs.Views.{shapes_of}
 use Rattle.tf_config_names.specs.Table.{names_in}
 use Rattle.tf_plan_data.specs.Plan.{plan_of}
 use Rattle.tf_walk_action.proofs.AskedRight.{made_as_asked, made_fully}

@@ -1,9 +1,9 @@
 use Rattle.std.proofs.Common.{◌<◌, ℕ, length, not, is_some, slice_index_or, refl, ap, subst, ◌∙◌}
-use Rattle.tf_expand.specs.Module.{IsModule}
-use Rattle.tf_expand.specs.Views.{shapes_of, resolved_names_of}
+use Rattle.tf_expand_keys.specs.Module.{IsModule}
+use Rattle.tf_expand_keys.specs.Views.{shapes_of, resolved_names_of}
 use Rattle.tf_graph.proofs.Solving.{all_by_at}
 use Rattle.tf_config_names.specs.Table.{names_in}
-use Rattle.tf_value.specs.Tree.{entries_view}
+use Rattle.tf_value_data.specs.Tree.{entries_view}
 use Rattle.tf_walk_names.proofs.Alone.{added_start, added_more, added_all, element}
 use Rattle.tf_walk_names.proofs.Shared.{same_answered}
 use Rattle.tf_walk_names.proofs.resolved.RequestObjects.add_resources.Goals as goal

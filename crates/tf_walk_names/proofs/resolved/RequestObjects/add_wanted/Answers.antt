@@ -1,10 +1,10 @@
 use Rattle.std.proofs.Common.{◌≡◌, length, slice_index_or, sym, ap, subst, ◌∙◌, arith}
-use Rattle.tf_expand.specs.Module.{IsModule}
-use Rattle.tf_expand.specs.Views.{shapes_of, resolved_names_of}
-use Rattle.tf_expand.specs.declared.table.ModuleParts.{ModuleParts}
+use Rattle.tf_expand_keys.specs.Module.{IsModule}
+use Rattle.tf_expand_keys.specs.Views.{shapes_of, resolved_names_of}
+use Rattle.tf_expand_keys.specs.declared.table.ModuleParts.{ModuleParts}
 use Rattle.tf_config_names.specs.Needs.{order_in}
 use Rattle.tf_config_names.specs.Table.{names_in}
-use Rattle.tf_value.specs.Tree.{entries_view}
+use Rattle.tf_value_data.specs.Tree.{entries_view}
 use Rattle.tf_walk_names.proofs.Answering.{place_of_order}
 use Rattle.tf_walk_names.proofs.Shared.{adding_start, adding_more, adding_all, same_answered}
 use Rattle.tf_walk_names.proofs.resolved.RequestObjects.add_wanted.Goals as goal

@@ -1,7 +1,7 @@
-use Rattle.tf_expand.specs.Views.{shapes_of}
+use Rattle.tf_expand_keys.specs.Views.{shapes_of}
 use Rattle.tf_config_names.specs.Needs.{order_in}
 use Rattle.tf_config_names.specs.Table.{names_in}
-use Rattle.tf_value.specs.Tree.{entries_view}
+use Rattle.tf_value_data.specs.Tree.{entries_view}
 use Rattle.tf_walk_names.proofs.Shared.{IsAdding}
 use Rattle.tf_walk_names.proofs.resolved.RequestObjects.add_wanted.Given as goal
 

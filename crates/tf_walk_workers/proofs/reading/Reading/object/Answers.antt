@@ -1,6 +1,6 @@
 use Rattle.std.proofs.Common.{◌≡◌, IfOk, subst}
 use Rattle.tf_walk_action.specs.Objects.{object_of}
-use Rattle.tf_value.specs.Tree.{tree_of}
+use Rattle.tf_value_data.specs.Tree.{tree_of}
 use Rattle.tf_walk_workers.proofs.TrueEnds.{object-is}
 use Rattle.tf_walk_workers.specs.Reading.{done_in}
 use Rattle.tf_walk_workers.proofs.reading.Reading.object.Goals as goal

@@ -1,5 +1,0 @@
-use Rattle.tf_config.proofs.BlockLaws.{blocks_in_order}
-use Rattle.tf_config.proofs.laws.blocks_are_in_order.Goals as goal
-
-pub returns : goal.returns
-returns c = record { order = blocks_in_order }

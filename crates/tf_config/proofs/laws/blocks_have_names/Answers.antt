@@ -1,5 +1,0 @@
-use Rattle.tf_config.proofs.BlockLaws.{blocks_named}
-use Rattle.tf_config.proofs.laws.blocks_have_names.Goals as goal
-
-pub returns : goal.returns
-returns c = blocks_named

@@ -1,0 +1,8 @@
+//! Laws on expansions.
+
+ghost use Rattle.tf_expand_keys.specs.ExpansionLaws.{AllStandWhereNoneIsRefused};
+
+/// Where no resource is refused, each name stands for something.
+pub fn all_stand_where_none_is_refused()
+    ensures { AllStandWhereNoneIsRefused }
+{}

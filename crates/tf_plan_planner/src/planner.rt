@@ -1,0 +1,207 @@
+//! The planner.
+
+ghost use Rattle.std.specs.Prelude.{◌≡◌, ◌≤◌, ◌<◌, ◌+◌, ◌^◌, IfOk, IfErr, false, length, map, slice_index_or};
+ghost use Rattle.tf_plan_data.specs.Words.{a_name, action_of, AreApart, AreServed, config_of, entries_view, IsAcyclic, IsDependence, names_in, names_of, needs_in, numbered_in, plan_of, shapes_of, state_of};
+ghost use Rattle.tf_plan_planner.specs.Input.{IsGiven, names_given, outputs_given, resources_given, variables_given};
+ghost use Rattle.tf_plan_planner.specs.Plan.{IsPlan, IsPlannedFrom, max_actions};
+ghost use Rattle.tf_plan_planner.specs.Planned.{AreInstances, IsPlanned, planned_of, unrefused};
+ghost use Rattle.tf_plan_planner.specs.Refused.{AreRefused, AreRefusedIn, AreRefusedOf, AreRefusedOfSome, AreUnexpanded, Tells};
+
+use crate::deciding::{PlanInput, PlannedInstances, plan_instances};
+use crate::faults::{alone, expansion_refusal, limit_refusal};
+use crate::ordering::{Ordered, order_actions};
+use crate::refused::Refused;
+use std::alloc::Global;
+use std::collections::BTreeMap;
+use tf_config_data::Config;
+use tf_config_names::{Declarations, Dependence};
+use tf_expand_keys::{InstanceKeys, Module, ModuleParts, expand};
+use tf_graph::MAX_NODES;
+use tf_plan_data::{Action, Plan, Planned};
+use tf_plan_order::{Order, ResourceIndex};
+use tf_provider_protocol::Provider;
+use tf_state_data::State;
+use tf_value_data::Value;
+
+/// The most actions that a plan may have.
+pub const MAX_ACTIONS: usize = 2_000;
+
+/// Plans a configuration, whose variables have these values, beside a prior state: what is done about each instance that
+/// either has, in address order. The provider of a type is the first in the list with a schema for it. `dependence` says
+/// which name of the configuration needs which, and none needs itself.
+///
+/// # Errors
+///
+/// Refused is, in this order: at `TYPE.NAME` the first resource whose instances can't be told, with 6 for a bad
+/// `count`, 7 for a bad `for_each`, 8 where either isn't known yet, and 9 where it can't be evaluated; with 14 at
+/// `configuration` more than 2,000 instances; all that is refused of instances, in address order, and then of outputs,
+/// where that is anything; with 14 at `configuration` more than 2,000 actions, and more than 200,000 pairs of actions of
+/// which one is before the other. An instance is refused at its address with 11 where no provider has its type, with 13
+/// where an object of it doesn't fit the schema, with 9 or 10 for what is wrong with its arguments, and with 12 where an
+/// object would be destroyed that may not be. `NoMemory` may be told in place of any answer.
+pub fn plan(
+    alloc: Global,
+    prior: State,
+    config: Config,
+    variables: BTreeMap<String, Value>,
+    dependence: Dependence,
+    providers: &[Box<dyn Provider + Sync>],
+) -> Result<Planned, Refused>
+    requires dependence { IsDependence (names_of (config_of config)) dependence }
+    requires acyclic { IsAcyclic dependence }
+    requires few { length (names_of (config_of config)) + length (state_of prior).resources ≤ MAX_NODES }
+    requires serial { (state_of prior).serial + 1 < 2 ^ 32 }
+    ensures planned { IfOk result (λ p. IsPlan (map meaning providers.now) (config_of config) (entries_view variables.entries) (state_of prior) (plan_of p)) }
+    ensures served { IfOk result (λ p. AreServed (map meaning providers.now) (map action_of p.actions.items)) }
+    ensures refused { IfErr result (Tells (AreRefused (map meaning providers.now) (config_of config) (entries_view variables.entries) (state_of prior))) }
+{
+    blocks_are_apart(&config);
+    let parts = plan_parts(alloc, &prior, &config, &variables, &dependence, providers)?;
+    let PlannedParts {
+        shapes,
+        actions,
+        late,
+        order,
+    } = parts;
+    Ok(Planned {
+        plan: Plan {
+            prior,
+            config,
+            variables,
+            dependence,
+            shapes,
+            late,
+            actions,
+            order,
+        },
+    })
+}
+
+/// No two blocks of a configuration are at one address, as it has them in a map. It does nothing.
+fn blocks_are_apart(config: &Config)
+    ensures { AreApart (map a_name (names_of (config_of config.now))) }
+{
+    let _ = config.resources.len();
+}
+
+/// What is worked out for a plan.
+#[derive(Drop)]
+struct PlannedParts {
+    shapes: Vec<InstanceKeys>,
+    actions: Vec<Action>,
+    late: Vec<bool>,
+    order: Order,
+}
+
+/// Works out what a plan of a configuration holds.
+fn plan_parts<'a>(
+    alloc: Global,
+    prior: &'a State,
+    config: &'a Config,
+    variables: &'a BTreeMap<String, Value>,
+    dependence: &'a Dependence,
+    providers: &[Box<dyn Provider + Sync>],
+) -> Result<PlannedParts, Refused>
+    requires dependence { IsDependence (names_of (config_of config.now)) dependence.now }
+    requires acyclic { IsAcyclic dependence.now }
+    requires few { length (names_of (config_of config.now)) + length (state_of prior.now).resources ≤ MAX_NODES }
+    ensures planned { IfOk result (λ parts. IsPlannedFrom (map meaning providers.now) (state_of prior.now).resources (entries_view variables.now.entries) (names_of (config_of config.now)) (config_of config.now).outputs
+        (needs_in dependence.now) (shapes_of parts.shapes.items) (map action_of parts.actions.items) (λ n. slice_index_or parts.late.items n false) parts.order) }
+    ensures refused { IfErr result (Tells (AreRefused (map meaning providers.now) (config_of config.now) (entries_view variables.now.entries) (state_of prior.now))) }
+{
+    let names = Declarations::new(alloc, config, dependence)?;
+    let resource_index = ResourceIndex::new(alloc, &names, prior)?;
+    let declared = Module {
+        parts: ModuleParts {
+            variables,
+            names: &names,
+            dependence,
+        },
+    };
+    let given = PlanInput {
+        declared: &declared,
+        outputs: &config.outputs,
+        prior,
+        resource_index: &resource_index,
+    };
+    plan_given(alloc, &given, providers)
+}
+
+/// Works out what a plan holds.
+fn plan_given(
+    alloc: Global,
+    given: &PlanInput,
+    providers: &[Box<dyn Provider + Sync>],
+) -> Result<PlannedParts, Refused>
+    requires given { IsGiven given.now }
+    requires few { length (numbered_in given.now.resource_index.now) ≤ MAX_NODES }
+    ensures planned { IfOk result (λ parts. IsPlannedFrom (map meaning providers.now) (resources_given given.now) (variables_given given.now) (names_given given.now) (outputs_given given.now)
+        (needs_in given.now.declared.now.dependence.now) (shapes_of parts.shapes.items) (map action_of parts.actions.items) (λ n. slice_index_or parts.late.items n false) parts.order) }
+    ensures refused { IfErr result (Tells (AreRefusedOf (map meaning providers.now) (resources_given given.now) (variables_given given.now) (names_given given.now) (outputs_given given.now))) }
+{
+    let shapes = expanded(alloc, given.declared)?;
+    let actions = decided_actions(alloc, given, shapes.as_slice(), providers)?;
+    let ordered = order_actions(
+        alloc,
+        given.declared,
+        given.resource_index,
+        actions.as_slice(),
+    )?;
+    let Ordered { late, order } = ordered;
+    Ok(PlannedParts {
+        shapes,
+        actions,
+        late,
+        order,
+    })
+}
+
+/// How the instances of each resource stand together, or the refusal of that.
+fn expanded(alloc: Global, declared: &Module) -> Result<Vec<InstanceKeys>, Refused>
+    ensures instances { IfOk result (λ shapes. AreInstances (entries_view declared.now.variables.now.entries) (names_in declared.now.names.now) (shapes_of shapes.items)) }
+    ensures refused { IfErr result (Tells (AreUnexpanded (entries_view declared.now.variables.now.entries) (names_in declared.now.names.now))) }
+{
+    let _ = &declared.parts;
+    match expand(alloc, declared) {
+        Ok(shapes) => Ok(shapes),
+        Err(fault) => {
+            let refusal = expansion_refusal(alloc, declared.parts.names, fault)?;
+            Err(alone(alloc, refusal)?)
+        }
+    }
+}
+
+/// The actions of these instances, or what is refused of them.
+fn decided_actions(
+    alloc: Global,
+    given: &PlanInput,
+    shapes: &[InstanceKeys],
+    providers: &[Box<dyn Provider + Sync>],
+) -> Result<Vec<Action>, Refused>
+    requires { IsGiven given.now }
+    ensures planned { IfOk result (λ actions. IsPlanned (map meaning providers.now) (resources_given given.now) (variables_given given.now) (names_given given.now) (outputs_given given.now)
+        (shapes_of shapes.now) (unrefused (map action_of actions.items))) }
+    ensures few { IfOk result (λ actions. length actions.items ≤ max_actions) }
+    ensures refused { IfErr result (Tells (AreRefusedOfSome (IsPlanned (map meaning providers.now) (resources_given given.now) (variables_given given.now) (names_given given.now) (outputs_given given.now)
+        (shapes_of shapes.now)))) }
+{
+    let planned = plan_instances(alloc, given, shapes, providers)?;
+    actions_of(alloc, planned)
+}
+
+/// The actions, where nothing is refused and they aren't too many; else what is refused.
+fn actions_of(alloc: Global, planned: PlannedInstances) -> Result<Vec<Action>, Refused>
+    ensures fine { IfOk result (λ actions. planned_of planned ≡ unrefused (map action_of actions.items)) }
+    ensures few { IfOk result (λ actions. length actions.items ≤ max_actions) }
+    ensures refused { IfErr result (Tells (AreRefusedIn (planned_of planned))) }
+{
+    let PlannedInstances { actions, refusals } = planned;
+    if !refusals.is_empty() {
+        return Err(Refused::These(refusals));
+    }
+    if actions.len() > MAX_ACTIONS {
+        let beyond = limit_refusal(alloc)?;
+        return Err(alone(alloc, beyond)?);
+    }
+    Ok(actions)
+}

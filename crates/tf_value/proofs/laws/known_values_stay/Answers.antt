@@ -1,5 +1,0 @@
-use Rattle.tf_value.proofs.Order.{Refines-known}
-use Rattle.tf_value.proofs.laws.known_values_stay.Goals as goal
-
-pub returns : goal.returns
-returns c = Refines-known

@@ -1,5 +1,0 @@
-use Rattle.tf_value.proofs.WithNulls.{nulls-known, known-nulls, nulls-refine, nulls-measure}
-use Rattle.tf_value.proofs.laws.nulls_stand_for_unknowns.Goals as goal
-
-pub returns : goal.returns
-returns c = record { known = nulls-known; stays = known-nulls; refines = nulls-refine; measures = nulls-measure }

@@ -1,5 +1,0 @@
-use Rattle.tf_value.proofs.Keys.{get-put, get-put_other}
-use Rattle.tf_value.proofs.laws.puts_are_found.Goals as goal
-
-pub returns : goal.returns
-returns c = record { found = get-put; others = get-put_other }
