@@ -19,6 +19,10 @@ pub record AreNamesRefused (texts : Texts) (refusal : RefusalView) : Type 0 wher
   pub read : IsRead texts.config config
   pub refused : RefusesItsNames config refusal
 
+-- The text is refused as a configuration, or its names are.
+abbrev pub IsConfigurationRefused : List ℕ → RefusalView → Type 0
+IsConfigurationRefused text refusal = IsRefused text refusal ⊎ ((config : ConfigView) × IsRead text config × RefusesItsNames config refusal)
+
 -- The text is a configuration with good names, and the variables file or a variable is refused.
 pub record AreValuesRefused (texts : Texts) (refusal : RefusalView) : Type 0 where
   pub config : ConfigView

@@ -2,6 +2,10 @@
 //! starts from.
 #![tactic(auto)]
 
+pub mod configuration;
 mod reading;
 
+pub use configuration::{
+    Configuration, ConfigurationParts, Vars, read_configuration, read_variables,
+};
 pub use reading::{Inputs, read_texts};
