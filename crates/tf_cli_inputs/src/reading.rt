@@ -1,4 +1,4 @@
-//! From the texts that the user gives to what they stand for.
+//! Reading of the texts that a user gives.
 
 ghost use Rattle.std.specs.Prelude.{◌≡◌, ◌≤◌, ◌<◌, ◌+◌, ◌^◌, length, option_map, IfOk, IfErr, OnOk};
 ghost use Rattle.tf_config_json.specs.Reading.{IsRefused, IsWithinCounts};
@@ -22,7 +22,7 @@ use tf_state::{StateFault, new_states_are_valid, read as read_state, read_states
 use tf_state_data::State;
 use tf_value_data::Value;
 
-/// What the texts that a user gives stand for.
+/// The content of the texts that a user gives.
 #[derive(Drop)]
 pub struct Inputs {
     /// The configuration.
@@ -35,16 +35,16 @@ pub struct Inputs {
     pub prior: State,
 }
 
-/// Reads the texts that a user gives: the configuration, the values of its variables, and the prior state. Where there
-/// is none, the prior state is the empty one of the lineage that is given.
+/// Reads the texts that a user gives: the configuration, the values of its variables, and the prior state. If there
+/// is no text of a state, the prior state is the empty one with the given lineage.
 ///
 /// # Errors
 ///
-/// The first of these in the order of tests, or `OutOfMemory`.
-/// - What `tf_config_json::read` refuses.
-/// - What `tf_config_names::check_names` refuses: 4 and then 5.
-/// - What `tf_config_json::read_vars` refuses.
-/// - 13 at `state` where the prior state's text is no state's, and 14 there where the state is beyond a limit.
+/// Fails with the first of these in the order of tests, or with `OutOfMemory`:
+/// - the refusals of `tf_config_json::read`;
+/// - the refusals of `tf_config_names::check_names`: 4 and then 5;
+/// - the refusals of `tf_config_json::read_vars`;
+/// - 13 at `state` if the prior state's text is no state's, and 14 there if the state is beyond a limit.
 pub fn read_texts(
     alloc: Global,
     config: &[u8],
@@ -73,7 +73,7 @@ pub fn read_texts(
     })
 }
 
-/// The configuration that a text is.
+/// Reads a text as a configuration.
 fn read_config(alloc: Global, text: &[u8]) -> Result<Config, Refusal>
     ensures read { IfOk result (λ config. IsRead text.now (config_of config)) }
     ensures refused { IfErr result (λ r. IsRefused text.now (refusal_of r)) }
@@ -81,7 +81,7 @@ fn read_config(alloc: Global, text: &[u8]) -> Result<Config, Refusal>
     read(alloc, text)
 }
 
-/// Which name of a configuration needs which, where all names are good.
+/// Returns which name of a configuration needs which, if all names are good.
 fn dependence_of(alloc: Global, config: &Config) -> Result<Dependence, Refusal>
     requires few { IsWithinCounts (config_of config.now) }
     ensures good { OnOk result (AreNamesGood (config_of config.now)) }
@@ -93,7 +93,7 @@ fn dependence_of(alloc: Global, config: &Config) -> Result<Dependence, Refusal>
     check_names(alloc, config)
 }
 
-/// The state that a plan starts from: the one that a text is, or the empty one of a lineage where there is no text.
+/// Reads the prior state from a text, or returns the empty state of a lineage if there is no text.
 fn read_prior(alloc: Global, state: Option<&[u8]>, lineage: &str) -> Result<State, Refusal>
     ensures prior { IfOk result (λ s. IsPrior (option_map (λ s. s.now) state.entry) lineage.now (state_of s)) }
     ensures valid { IfOk result (λ s. IsValid (state_of s)) }
@@ -110,7 +110,7 @@ fn read_prior(alloc: Global, state: Option<&[u8]>, lineage: &str) -> Result<Stat
     }
 }
 
-/// How a fault of the state's text is refused.
+/// Returns the refusal of a fault of the state's text.
 fn state_refusal(alloc: Global, why: StateFault) -> Result<Refusal, AllocError>
     ensures { IfOk result (λ r. refusal_of r ≡ fault_told why) }
 {
@@ -121,7 +121,7 @@ fn state_refusal(alloc: Global, why: StateFault) -> Result<Refusal, AllocError>
     }
 }
 
-/// The refusal with a code that stands at the state.
+/// Returns the refusal with a code, placed at `state`.
 fn at_state(alloc: Global, code: Code) -> Result<Refusal, AllocError>
     ensures { IfOk result (λ r. refusal_of r ≡ at_state code) }
 {
