@@ -1,5 +1,4 @@
-//! What the texts that a user gives stand for: a configuration, the values of its variables, and the state that a plan
-//! starts from.
+//! Reading of the texts that a user gives: a configuration, the values of its variables, and the prior state.
 #![tactic(auto)]
 
 pub mod configuration;

@@ -1,4 +1,4 @@
-//! From the texts that the user gives to what they stand for.
+//! Reading of the texts that a user gives.
 
 ghost use Rattle.std.specs.Prelude.{◌≡◌, ◌≤◌, ◌<◌, ◌+◌, ◌^◌, length, option_map, IfOk, IfErr};
 ghost use Rattle.tf_config_data.specs.Words.{config_of, names_of};
@@ -16,7 +16,7 @@ use tf_graph::MAX_NODES;
 use tf_state::{StateFault, new_states_are_valid, read as read_state, read_states_are_valid};
 use tf_state_data::State;
 
-/// What the texts that a user gives stand for.
+/// The content of the texts that a user gives.
 #[derive(Drop)]
 pub struct Inputs {
     /// The configuration.
@@ -27,16 +27,16 @@ pub struct Inputs {
     pub prior: State,
 }
 
-/// Reads the texts that a user gives: the configuration, the values of its variables, and the prior state. Where there
-/// is none, the prior state is the empty one of the lineage that is given.
+/// Reads the texts that a user gives: the configuration, the values of its variables, and the prior state. If there
+/// is no text of a state, the prior state is the empty one with the given lineage.
 ///
 /// # Errors
 ///
-/// The first of these in the order of tests, or `OutOfMemory`.
-/// - What `tf_config_json::read` refuses.
-/// - What `tf_config_names::check_names` refuses: 4 and then 5.
-/// - What `tf_config_json::read_vars` refuses.
-/// - 13 at `state` where the prior state's text is no state's, and 14 there where the state is beyond a limit.
+/// Fails with the first of these in the order of tests, or with `OutOfMemory`:
+/// - the refusals of `tf_config_json::read`;
+/// - the refusals of `tf_config_names::check_names`: 4 and then 5;
+/// - the refusals of `tf_config_json::read_vars`;
+/// - 13 at `state` if the prior state's text is no state's, and 14 there if the state is beyond a limit.
 pub fn read_texts(
     alloc: Global,
     config: &[u8],
@@ -78,7 +78,7 @@ fn read_prior(alloc: Global, state: Option<&[u8]>, lineage: &str) -> Result<Stat
     }
 }
 
-/// How a fault of the state's text is refused.
+/// Returns the refusal of a fault of the state's text.
 fn state_refusal(alloc: Global, why: StateFault) -> Result<Refusal, AllocError>
     ensures { IfOk result (λ r. refusal_of r ≡ fault_told why) }
 {
@@ -89,7 +89,7 @@ fn state_refusal(alloc: Global, why: StateFault) -> Result<Refusal, AllocError>
     }
 }
 
-/// The refusal with a code that stands at the state.
+/// Returns the refusal with a code, placed at `state`.
 fn at_state(alloc: Global, code: Code) -> Result<Refusal, AllocError>
     ensures { IfOk result (λ r. refusal_of r ≡ at_state code) }
 {

@@ -25,7 +25,7 @@ pub struct Action {
 }
 
 impl Action {
-    /// The action as the order of actions sees it.
+    /// Returns the action as the order of actions sees it.
     pub fn ordered(&self) -> tf_plan_order::OrderedAction
         ensures { result ≡ ordered (action_of self.now) }
     {

@@ -20,6 +20,6 @@ pub struct OrderedAction {
     pub instance: usize,
     /// What it does.
     pub kind: ActionKind,
-    /// Whether it is half of a replace: a create, with the destroy of the object that it takes the place of.
+    /// Whether it is half of a replace: a create, or the destroy of the object that the create replaces.
     pub replaces: bool,
 }

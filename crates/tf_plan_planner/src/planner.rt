@@ -26,19 +26,20 @@ use tf_value_data::Value;
 /// The most actions that a plan may have.
 pub const MAX_ACTIONS: usize = 2_000;
 
-/// Plans a configuration, whose variables have these values, beside a prior state: what is done about each instance that
-/// either has, in address order. The provider of a type is the first in the list with a schema for it. `dependence` says
-/// which name of the configuration needs which, and none needs itself.
+/// Plans a configuration, whose variables have these values, from a prior state: the actions for each instance that
+/// either has, in address order. The provider of a type is the first in the list with a schema for it. `dependence` is
+/// that of the configuration's names, and no name needs itself.
 ///
 /// # Errors
 ///
-/// Refused is, in this order: at `TYPE.NAME` the first resource whose instances can't be told, with 6 for a bad
-/// `count`, 7 for a bad `for_each`, 8 where either isn't known yet, and 9 where it can't be evaluated; with 14 at
-/// `configuration` more than 2,000 instances; all that is refused of instances, in address order, and then of outputs,
-/// where that is anything; with 14 at `configuration` more than 2,000 actions, and more than 200,000 pairs of actions of
-/// which one is before the other. An instance is refused at its address with 11 where no provider has its type, with 13
-/// where an object of it doesn't fit the schema, with 9 or 10 for what is wrong with its arguments, and with 12 where an
-/// object would be destroyed that may not be. `NoMemory` may be told in place of any answer.
+/// Fails with the first of these, in the order of the checks. `NoMemory` may be returned instead of any result.
+/// - 6, 7, 8 or 9 at `TYPE.NAME`, for the first resource whose instances can't be computed: 6 for a bad `count`, 7 for
+///   a bad `for_each`, 8 if either isn't known yet, and 9 if it can't be evaluated.
+/// - 14 at `configuration`: more than 2,000 instances.
+/// - All refusals of instances, in address order, and then of outputs. An instance is refused at its address with 11 if
+///   no provider has its type, with 13 if an object of it doesn't fit the schema, with 9 or 10 for a fault of its
+///   arguments, and with 12 if an object with `prevent_destroy` would be destroyed.
+/// - 14 at `configuration`: more than 2,000 actions, or more than 200,000 pairs of actions, one before the other.
 pub fn plan(
     alloc: Global,
     prior: State,
@@ -77,14 +78,14 @@ pub fn plan(
     })
 }
 
-/// No two blocks of a configuration are at one address, as it has them in a map. It does nothing.
+/// Shows that no two blocks of a configuration have the same address, because they are in a map. It does nothing.
 fn blocks_are_apart(config: &Config)
     ensures { AreApart (map a_name (names_of (config_of config.now))) }
 {
     let _ = config.resources.len();
 }
 
-/// What is worked out for a plan.
+/// The computed parts of a plan.
 #[derive(Drop)]
 struct PlannedParts {
     shapes: Vec<InstanceKeys>,
@@ -93,7 +94,7 @@ struct PlannedParts {
     order: Order,
 }
 
-/// Works out what a plan of a configuration holds.
+/// Computes the parts of a configuration's plan.
 fn plan_parts<'a>(
     alloc: Global,
     prior: &'a State,
@@ -127,7 +128,7 @@ fn plan_parts<'a>(
     plan_given(alloc, &given, providers)
 }
 
-/// Works out what a plan holds.
+/// Computes the parts of a plan.
 fn plan_given(
     alloc: Global,
     given: &PlanInput,
@@ -156,7 +157,7 @@ fn plan_given(
     })
 }
 
-/// How the instances of each resource stand together, or the refusal of that.
+/// Returns the instance keys of each resource, or the refusal of the expansion.
 fn expanded(alloc: Global, declared: &Module) -> Result<Vec<InstanceKeys>, Refused>
     ensures instances { IfOk result (λ shapes. AreInstances (entries_view declared.now.variables.now.entries) (names_in declared.now.names.now) (shapes_of shapes.items)) }
     ensures refused { IfErr result (Tells (AreUnexpanded (entries_view declared.now.variables.now.entries) (names_in declared.now.names.now))) }
@@ -171,7 +172,7 @@ fn expanded(alloc: Global, declared: &Module) -> Result<Vec<InstanceKeys>, Refus
     }
 }
 
-/// The actions of these instances, or what is refused of them.
+/// Returns the actions of these instances, or the refusals.
 fn decided_actions(
     alloc: Global,
     given: &PlanInput,
@@ -189,7 +190,7 @@ fn decided_actions(
     actions_of(alloc, planned)
 }
 
-/// The actions, where nothing is refused and they aren't too many; else what is refused.
+/// Returns the actions if nothing is refused and there aren't too many actions, or else the refusals.
 fn actions_of(alloc: Global, planned: PlannedInstances) -> Result<Vec<Action>, Refused>
     ensures fine { IfOk result (λ actions. planned_of planned ≡ unrefused (map action_of actions.items)) }
     ensures few { IfOk result (λ actions. length actions.items ≤ max_actions) }

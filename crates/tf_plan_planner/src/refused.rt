@@ -1,4 +1,4 @@
-//! Why nothing is planned, and so nothing is called.
+//! Why nothing is planned, and so no provider is called.
 
 ghost use Rattle.std.specs.Prelude.{◌≡◌};
 ghost use Rattle.tf_plan_planner.specs.declared.refused.Refused.TheVariants.{NoMemory};
@@ -9,9 +9,9 @@ use tf_config_refusal::Refusal;
 /// Why nothing is planned.
 #[derive(Debug, Drop)]
 pub enum Refused {
-    /// There was no memory (code 15). This answer takes none.
+    /// Memory ran out (code 15). This value takes no memory.
     NoMemory,
-    /// All that is refused, in order, one refusal at least.
+    /// All refusals, in order, at least one.
     These(Vec<Refusal>),
 }
 
