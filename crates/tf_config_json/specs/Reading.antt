@@ -55,8 +55,8 @@ abbrev pub HasTooMany : List ℕ → RefusalView → Type 0
 HasTooMany bytes refusal =
     (tree : Data) × IsTree bytes tree × (config : ConfigView) × IsConfiguration tree config × (¬ IsWithinCounts config) × (refusal ≡ whole_fault code.Limit)
 
--- The refusal of a text, in the order of the checks: it is too long, 14; it isn't JSON; it has a fault in its shape; it
--- has too much of something. Out of memory may be the refusal of any text.
+-- The refusal of a text, in the order of the checks: it is too long (14), it isn't JSON, it has a fault in its shape,
+-- or it has too much of something. Out of memory may be the refusal of any text.
 abbrev pub IsRefused : List ℕ → RefusalView → Type 0
 IsRefused bytes no_memory = Unit {0}
 IsRefused bytes workers = ⊥

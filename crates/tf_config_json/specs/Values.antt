@@ -12,7 +12,7 @@ use Rattle.tf_value_json.specs.Json.{value_from}
 use Rattle.tf_value_data.specs.Tree.{Tree, Entries, no_entries, entry}
 use Rattle.tf_config_json.specs.Types.{fitted}
 
--- the value of a name in a variables file; without a file there is none
+-- the value of a name in a variables file, or `None` if there is no file or it doesn't have the name
 abbrev pub given : Option Data → List ℕ → Option Data
 given None name = None
 given (Some tree) name = get name tree

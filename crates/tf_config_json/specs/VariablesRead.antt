@@ -36,7 +36,7 @@ IsFileOf _ _ = ⊥
 abbrev pub file_fault : Code → RefusalView
 file_fault code = fault code (dotted the_file) bare
 
--- The refusal of a text that isn't a variables file: it is too long, 14; it isn't JSON, 1; it isn't an object, 2.
+-- The refusal of a text that isn't a variables file: it is too long (14), it isn't JSON (1), or it isn't an object (2).
 abbrev pub IsNoFile : List ℕ → RefusalView → Type 0
 IsNoFile bytes refusal =
     ((max_bytes < length bytes) × (refusal ≡ file_fault code.Limit))

@@ -21,17 +21,17 @@ pub enum Refusal {
         /// Where the fault is: a whole file's name, a path of property names and array positions joined
         /// by dots, or an address.
         place: String,
-        /// What follows the refusal's name in its text.
+        /// The detail after the refusal's name in its text.
         detail: Detail,
     },
 }
 
-/// What follows a refusal's name.
+/// The detail after a refusal's name.
 #[derive(Debug, Drop)]
 pub enum Detail {
     /// Nothing.
     Bare,
-    /// The byte offset at which a text stops being a template.
+    /// The byte offset at which a text isn't a template.
     At(usize),
     /// The names of locals and resources in a cycle, in byte order.
     Names(Vec<String>),

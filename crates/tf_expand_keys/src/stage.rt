@@ -65,7 +65,7 @@ impl Keyed for Unknowns {
     }
 }
 
-/// The number from which on a list of unknown objects isn't built, because it is too large.
+/// A list of this many unknown objects, or more, is too large.
 const TOO_MANY: u64 = 1_000_000;
 
 impl ResourceValues for Expansion {

@@ -58,8 +58,8 @@ impl<'a, 'n> Model for Module<'a, 'n> {
 }
 
 /// Resolves the wanted names at a stage. The result is indexed by place, and a name that isn't wanted is `Nothing`.
-/// Each wanted local is evaluated once, and no other local is evaluated. `wanted` marks places, and with a name all
-/// that it needs.
+/// Each wanted local is evaluated once, and no other local is evaluated. `wanted` marks places. If it marks a name, it
+/// has to mark all that the name needs.
 ///
 /// # Errors
 ///

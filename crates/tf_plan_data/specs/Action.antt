@@ -9,7 +9,7 @@ use Rattle.tf_config_address.specs.ObjectId.{InstanceKeyView, instance_key_of}
 use Rattle.tf_state_data.specs.declared.object.Object.{Object}
 use Rattle.tf_value_data.specs.Tree.{Tree, tree_of}
 
--- What an action does to which object of an instance.
+-- A step: what an action does to which object of an instance.
 pub data StepView : Type 0 where
   -- creates an object; there is no current one
   create : Tree → StepView
@@ -24,8 +24,8 @@ pub data StepView : Type 0 where
   -- destroys the deposed object of a key, which is this one
   deposed_destroyed : List ℕ → Tree → StepView
 
--- An action: the number of its resource, and that of its instance among those of the resource; the address of the
--- instance; its step, and the version of the schema that its objects follow.
+-- An action: the numbers of its resource and of its instance among those of the resource, the address of the instance,
+-- its step, and the version of the schema that its objects follow.
 pub record ActionView : Type 0 where
   pub resource : ℕ
   pub instance : ℕ

@@ -18,7 +18,7 @@ pub struct Action {
     pub addr: ResourceAddr,
     /// The instance.
     pub key: InstanceKey,
-    /// What it does.
+    /// Its step.
     pub step: Step,
     /// The version of the schema that its objects follow.
     pub version: u32,

@@ -1,4 +1,4 @@
-//! What an action does.
+//! The steps of actions.
 
 ghost use Rattle.std.specs.Prelude.{◌≡◌};
 ghost use Rattle.tf_plan_data.specs.Action.{step_of};

@@ -50,7 +50,7 @@ abbrev pub with_members : OfView → (InstanceToPlanView → OutcomeView) → �
 with_members of becomes i [] d = d
 with_members of becomes i (m ∷ ms) d = with_members of becomes (i + 1) ms (with_outcome of i m.key (becomes m) d)
 
--- the version of a schema; without a schema no action uses it
+-- the version of a schema, or 0 if there is none, and then no action has it
 abbrev pub version_of : Option SchemaView → ℕ
 version_of schema = option_map_or (λ s. s.version) schema 0
 

@@ -46,12 +46,11 @@ pub enum DecisionFault {
 }
 
 /// Decides about an instance, by what is planned for it (`tf_plan_object::plan_instance`) and by its records: its
-/// current object, if there is one, and the deposed ones by their keys. Or returns why it is refused, the first of
-/// these:
+/// current object, if there is one, and the deposed ones by their keys. Or returns the first reason why it is refused:
 ///
 /// - One of these objects doesn't fit the schema.
 /// - The planned object has a fault. Of all names with a fault, including names in `ignore_changes` that no attribute
-/// has, the first in byte order is reported.
+///   has, the first in byte order is reported.
 /// - The current object would be replaced, and the block has `prevent_destroy`.
 ///
 /// # Errors

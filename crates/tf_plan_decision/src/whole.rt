@@ -39,8 +39,7 @@ pub struct InOrder {
 
 /// Decides about the names of a configuration in the order of their dependence. Each instance is evaluated and decided
 /// once, and the value of a wanted resource follows from these decisions. A block is decided only if nothing that it
-/// needs was refused. `wanted` marks places. With a name, all that it needs has to be wanted, and all that a block
-/// needs has to be wanted.
+/// needs was refused. `wanted` marks places. It has to mark all that a marked name needs, and all that a block needs.
 ///
 /// # Errors
 ///

@@ -16,7 +16,7 @@ use tf_expr_syntax::Expr;
 use tf_provider_protocol::{Attribute, Kind, Mode};
 use tf_value_data::{Value, with_lists};
 
-/// What is wrong with an argument, or with an attribute that no argument sets.
+/// The fault of an argument, or of an attribute that no argument sets.
 #[derive(Clone, Copy, Debug, PartialEq, Eq)]
 pub enum ArgumentFault {
     /// Its expression has no value.

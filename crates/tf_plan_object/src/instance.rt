@@ -15,7 +15,7 @@ use tf_expr_eval::{EvalFault, Scope};
 use tf_provider_protocol::Schema;
 use tf_value_data::Value;
 
-/// What is wrong with an instance.
+/// The fault of an instance.
 #[derive(Debug, Drop)]
 pub enum InstanceFault {
     /// `for_each`, which is evaluated again for each instance, has no value, or its value has nothing under the
@@ -25,7 +25,7 @@ pub enum InstanceFault {
     Argument {
         /// The attribute, or the argument that names no attribute.
         name: String,
-        /// What is wrong with it.
+        /// Its fault.
         fault: ArgumentFault,
     },
 }

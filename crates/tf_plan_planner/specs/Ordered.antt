@@ -27,7 +27,7 @@ abbrev pub stored_graph : List ResourceRefView → List ResourceView → Digraph
 stored_graph all resources = record { nodes = length all; edges = turned (dependencies all resources) }
 
 -- The relations of the resources of a configuration and a state together: which needs which by the configuration, as
--- its dependence says; which needed which by the dependencies that the state has stored; and which are late, by both
+-- its dependence says, which needed which by the dependencies that the state has stored, and which are late, by both
 -- and by the marks of `create_before_destroy`.
 pub record AreTied (names : List NameView) (resources : List ResourceView) (ties : OrderInputView) : Type 0 where
   pub dependence : Dependence

@@ -65,7 +65,7 @@ pub record IsUnplanned (ms : List Meaning) (resources : List ResourceView) (vari
   pub planned : IsPlanned ms resources variables names outputs shapes (record { actions = actions; refusals = refusal_views })
   pub some : refusal_views ≢ []
 
--- Nothing is refused of the instances and the outputs, and there are too many actions.
+-- No instance and no output is refused, and there are too many actions.
 pub record AreManyActions (ms : List Meaning) (resources : List ResourceView) (variables : Entries) (names : List NameView) (outputs : expr.Entries) (refusal_views : List RefusalView) : Type 0 where
   pub shapes : ℕ → InstanceKeysView
   pub actions : List ActionView
