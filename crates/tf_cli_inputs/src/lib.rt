@@ -7,4 +7,4 @@ mod reading;
 pub use configuration::{
     Configuration, ConfigurationParts, Vars, read_configuration, read_variables,
 };
-pub use reading::{Inputs, read_texts};
+pub use reading::{Inputs, at_state, read_texts};

@@ -1,8 +1,9 @@
 //! Reading of the texts that a user gives.
 
-ghost use Rattle.std.specs.Prelude.{◌≡◌, ◌≤◌, ◌<◌, ◌+◌, ◌^◌, length, option_map, IfOk, IfErr};
-ghost use Rattle.tf_config_data.specs.Words.{config_of, names_of};
+ghost use Rattle.std.specs.Prelude.{◌≡◌, option_map, IfOk, IfErr};
+ghost use Rattle.tf_config_data.specs.Words.{config_of};
 ghost use Rattle.tf_config_refusal.specs.Refusal.{refusal_of};
+ghost use Rattle.tf_state.specs.Table.{IsPlannable};
 ghost use Rattle.tf_state.specs.Valid.{IsValid};
 ghost use Rattle.tf_state_data.specs.State.{state_of};
 ghost use Rattle.tf_value_data.specs.Tree.{entries_view};
@@ -12,7 +13,6 @@ ghost use Rattle.tf_cli_inputs.specs.Texts.{IsPrior, ReadAs, the_texts};
 use crate::configuration::{Configuration, Vars, read_configuration, read_variables};
 use std::alloc::{AllocError, Global};
 use tf_config_refusal::{Code, Detail, Refusal};
-use tf_graph::MAX_NODES;
 use tf_state::{StateFault, new_states_are_valid, read as read_state, read_states_are_valid};
 use tf_state_data::State;
 
@@ -46,9 +46,8 @@ pub fn read_texts(
 ) -> Result<Inputs, Refusal>
     ensures stand { IfOk result (λ i. ReadAs (the_texts config.now (option_map (λ s. s.now) vars.entry) (option_map (λ s. s.now) state.entry)) lineage.now
         (config_of i.configuration.config) (entries_view i.values.entries) (state_of i.prior)) }
+    ensures plannable { IfOk result (λ i. IsPlannable (state_of i.prior)) }
     ensures valid { IfOk result (λ i. IsValid (state_of i.prior)) }
-    ensures few { IfOk result (λ i. length (names_of (config_of i.configuration.config)) + length (state_of i.prior).resources ≤ MAX_NODES) }
-    ensures serial { IfOk result (λ i. (state_of i.prior).serial + 1 < 2 ^ 32) }
     ensures refused { IfErr result (λ r. IsToldOf (the_texts config.now (option_map (λ s. s.now) vars.entry) (option_map (λ s. s.now) state.entry)) (refusal_of r)) }
 {
     let configuration = read_configuration(alloc, config)?;
@@ -90,7 +89,11 @@ fn state_refusal(alloc: Global, why: StateFault) -> Result<Refusal, AllocError>
 }
 
 /// Returns the refusal with a code, placed at `state`.
-fn at_state(alloc: Global, code: Code) -> Result<Refusal, AllocError>
+///
+/// # Errors
+///
+/// Fails only if memory runs out.
+pub fn at_state(alloc: Global, code: Code) -> Result<Refusal, AllocError>
     ensures { IfOk result (λ r. refusal_of r ≡ at_state code) }
 {
     Ok(Refusal::Fault {

@@ -21,6 +21,8 @@ use Rattle.tf_plan_order.specs.OrderInput.{OrderInputView}
 use Rattle.tf_provider_protocol.specs.Meaning.{Meaning}
 use Rattle.tf_config_refusal.specs.declared.code.Code.TheVariants as code
 use Rattle.tf_config_refusal.specs.Refusal.{RefusalView, fault, bare, kind, refusal_of}
+use Rattle.tf_cli_inputs.specs.Refusals.{at_state}
+use Rattle.tf_state.specs.Table.{IsBeyond}
 use Rattle.tf_state_data.specs.Resource.{ResourceView}
 use Rattle.tf_state_data.specs.State.{StateView}
 use Rattle.tf_expr_syntax.specs.ExprTree as expr
@@ -111,6 +113,14 @@ AreRefusedOf ms resources variables names outputs refusal_views = AreUnexpanded 
 -- The refusals of a configuration whose variables have these values, and of a prior state.
 abbrev pub AreRefused : List Meaning → ConfigView → Entries → StateView → List RefusalView → Type 0
 AreRefused ms config variables prior refusal_views = AreRefusedOf ms prior.resources variables (names_of config) config.outputs refusal_views
+
+-- a state beyond a limit is refused alone, with 14
+abbrev pub IsStateBeyond : StateView → List RefusalView → Type 0
+IsStateBeyond prior refusal_views = IsBeyond prior × (refusal_views ≡ at_state code.Limit ∷ [])
+
+-- All refusals of a plan, in the order of the checks: of the prior state, then of the configuration.
+abbrev pub ArePlanRefusals : List Meaning → ConfigView → Entries → StateView → List RefusalView → Type 0
+ArePlanRefusals ms config variables prior refusal_views = IsStateBeyond prior refusal_views ⊎ AreRefused ms config variables prior refusal_views
 
 -- The error of a planner: refusals with this property, or out of memory.
 abbrev pub Tells : (List RefusalView → Type 0) → Refused → Type 0

@@ -14,7 +14,7 @@ mod telling;
 mod wanted;
 
 pub use planner::{MAX_ACTIONS, plan};
-pub use refused::Refused;
+pub use refused::{Refused, Unplanned};
 pub use tf_plan_data::{Action, Plan, Planned, Step, address_text};
 pub use tf_plan_order::Order;
 pub use tf_plan_text::plan_text;

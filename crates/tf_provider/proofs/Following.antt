@@ -2,10 +2,13 @@
 use Rattle.std.proofs.Common.{◌≡◌, ◌≢◌, ◌∙◌, ◌<◌, ◌&&◌, ◌∷◌, [], ℕ, zero, suc, Bool, true, false, List, length, map, take, filter, refl, sym, subst, arith, cond, inl, inr}
 use Rattle.std.specs.Prelude.{nat_eq, Contains, slice_index, ◌==◌}
 use Rattle.std.specs.List.{list_all, AllByRecursion}
+use Rattle.std.specs.Bool.{Decides}
 use Rattle.std.specs.Cmp.{nat_eq_equiv}
-use Rattle.std.proofs.lemmas.Bool.{true≢false, cases_eq}
+use Rattle.std.specs.Cmp.Lexicographic.{pointwise}
+use Rattle.std.proofs.lemmas.Bool.{true≢false, cases_eq, eqb-true}
 use Rattle.std.proofs.lemmas.Bool.Decides.{eqb_tells}
 use Rattle.std.proofs.lemmas.Map.Made.{Contains-tail}
+use Rattle.std.proofs.lemmas.Slice.Eq.{slice_eq-Decides}
 use Rattle.tf_graph.specs.Digraph.{Digraph, predecessors_of, sources_into}
 use Rattle.tf_graph.specs.Order.{IsInOrder}
 use Rattle.tf_provider.specs.Entries.{Follows, follows}
@@ -110,3 +113,13 @@ in_order g own actions allowed h = record {
 -- and entries in the order of a graph follow each edge
 pub follows-order : (g : Digraph) (actions : List ℕ) → IsInOrder (predecessors_of g) actions → list_all (follows actions) g.edges ≡ true
 follows-order g actions order = all-followed g.edges actions order.after
+
+pair-Decides : (a b : ℕ × ℕ) → Decides (nat_eq a.0 b.0 && nat_eq a.1 b.1) (a ≡ b)
+pair-Decides a b = (
+  (λ e. let p = eqb-true a.0 b.0 (and_left _ _ e) in let q = eqb-true a.1 b.1 (and_right _ _ e) in λ i. (p i, q i)),
+  (λ e. subst (λ (c : ℕ × ℕ). (nat_eq a.0 c.0 && nat_eq a.1 c.1) ≡ true) e (rw (nat_eq_equiv.refl a.0, nat_eq_equiv.refl a.1) refl)),
+)
+
+-- edges that compare equal are equal
+pub same-edges : (xs ys : List (ℕ × ℕ)) (r : Bool) → r ≡ pointwise (λ (a b : ℕ × ℕ). nat_eq a.0 b.0 && nat_eq a.1 b.1) xs ys → r ≡ true → xs ≡ ys
+same-edges xs ys r is e = (slice_eq-Decides pair-Decides xs ys r is).0 e

@@ -54,7 +54,8 @@ pub fn read(alloc: Global, bytes: &[u8]) -> Result<State, StateFault>
     Ok(state)
 }
 
-fn is_plannable(state: &State) -> bool
+/// Returns whether a plan can start from a state: it has at most 4,000 resources, and a serial that another follows.
+pub fn is_plannable(state: &State) -> bool
     ensures within { OnTrue result (IsPlannable (state_of state.now)) }
     ensures beyond { OnFalse result (IsBeyond (state_of state.now)) }
 {
