@@ -5,7 +5,7 @@ use Rattle.std.specs.List.{list_all, AllByRecursion}
 use Rattle.std.specs.Bool.{Decides}
 use Rattle.std.specs.Cmp.{nat_eq_equiv}
 use Rattle.std.specs.Cmp.Lexicographic.{pointwise}
-use Rattle.std.proofs.lemmas.Bool.{true≢false, cases_eq, eqb-true}
+use Rattle.std.proofs.lemmas.Bool.{true≢false, eqb-true}
 use Rattle.std.proofs.lemmas.Bool.Decides.{eqb_tells}
 use Rattle.std.proofs.lemmas.Map.Made.{Contains-tail}
 use Rattle.std.proofs.lemmas.Slice.Eq.{slice_eq-Decides}
@@ -53,7 +53,7 @@ missed (n ∷ actions) edge h =
         | inr apart ↦
             let same : follows (n ∷ actions) edge ≡ follows actions edge = rw (other.0, apart.0) refl in
             let rest = missed actions edge (sym same ∙ h) in
-            (suc rest.0, omega (arith, rest.1), rest.2.0, λ c. rest.2.1 (Contains-tail n (take rest.0 actions) edge.0 apart.1 c))
+            (suc rest.0, omega (arith, rest.1), rest.2, λ c. rest.3 (Contains-tail n (take rest.0 actions) edge.0 apart.1 c))
       ]
     ]
 
@@ -66,11 +66,11 @@ and_right true y h = h
 and_right false y h = absurd (true≢false (sym h))
 
 -- what lies directly before an action by some edges is entered before it
-AreBefore : List ℕ → List (ℕ × ℕ) → ℕ → Type 0
+abbrev AreBefore : List ℕ → List (ℕ × ℕ) → ℕ → Type 0
 AreBefore actions edges i = AllByRecursion (λ a. Contains (take i actions) a) (sources_into edges (slice_index actions i))
 
 -- the same of one edge more, by whether it leads into the action
-with_edge : List ℕ → ℕ × ℕ → List (ℕ × ℕ) → ℕ → Bool → Type 0
+abbrev with_edge : List ℕ → ℕ × ℕ → List (ℕ × ℕ) → ℕ → Bool → Type 0
 with_edge actions e edges i into =
     AllByRecursion (λ a. Contains (take i actions) a) (map (λ e. e.0) (cond into (e ∷ filter (λ e. e.1 == slice_index actions i) edges) (filter (λ e. e.1 == slice_index actions i) edges)))
 
@@ -83,21 +83,21 @@ all-before (e ∷ edges) actions i below h =
       | inr other ↦ subst (with_edge actions e edges i) (sym other.0) rest
     ]
 
+-- an edge is followed if its first end is entered before each entry of its second
+edge-followed : (e : ℕ × ℕ) (edges : List (ℕ × ℕ)) (actions : List ℕ) → ((i : ℕ) → i < length actions → AreBefore actions (e ∷ edges) i) → (b : Bool) → follows actions e ≡ b → follows actions e ≡ true
+edge-followed e edges actions h true is = is
+edge-followed e edges actions h false is =
+    let at = missed actions e is in
+    elim (eqb_tells e.1 (slice_index actions at.0)) [
+      | inl same ↦ let into = subst (with_edge actions e edges at.0) same.0 (h at.0 at.1) in absurd (at.3 into.0)
+      | inr other ↦ absurd (other.1 (sym at.2))
+    ]
+
 all-followed : (edges : List (ℕ × ℕ)) (actions : List ℕ) → ((i : ℕ) → i < length actions → AreBefore actions edges i) → list_all (follows actions) edges ≡ true
 all-followed [] actions h = refl
 all-followed (e ∷ edges) actions h =
-    let first : follows actions e ≡ true =
-    elim (cases_eq (follows actions e)) [
-      | inl yes ↦ yes
-      | inr no ↦
-          let at = missed actions e no in
-          elim (eqb_tells e.1 (slice_index actions at.0)) [
-            | inl same ↦ let into = subst (with_edge actions e edges at.0) same.0 (h at.0 at.1) in absurd (at.2.1 into.0)
-            | inr other ↦ absurd (other.1 (sym at.2.0))
-          ]
-    ] in
-    let rest = all-followed edges actions (λ i below.
-    elim (eqb_tells e.1 (slice_index actions i)) [
+    let first = edge-followed e edges actions h (follows actions e) refl in
+    let rest = all-followed edges actions (λ i below. elim (eqb_tells e.1 (slice_index actions i)) [
       | inl same ↦ (subst (with_edge actions e edges i) same.0 (h i below)).1
       | inr other ↦ subst (with_edge actions e edges i) other.0 (h i below)
     ]) in
