@@ -1,5 +1,5 @@
 -- Limits that are checked twice.
-use Rattle.std.proofs.Common.{◌≡◌, refl, ap, sym, ◌∙◌, Bool, true, false, Result, Ok, Err, nat_le, arith, subst}
+use Rattle.std.proofs.Common.{◌≡◌, refl, ap, sym, ◌∙◌, Bool, true, false, Ok, Err, nat_le, subst}
 use Rattle.std.proofs.lemmas.Bool.{leb-true}
 use Rattle.tf_expr_syntax.specs.ExprTree as exprs
 use Rattle.tf_expr_syntax.specs.TemplateTree as syntax
@@ -8,12 +8,12 @@ use Rattle.tf_value_data.specs.Tree as values
 use Rattle.tf_value_data.specs.Measure.{weight, depth, max_weight, max_depth, IsWithinLimits}
 use Rattle.tf_expr_operators.specs.Answer.{Answer, limited, list_value, map_value}
 use Rattle.tf_expr_syntax.specs.Function.{function_named}
-use Rattle.tf_expr_operators.specs.Operators.{unary_value, binary_value}
-use Rattle.tf_expr_operators.specs.Parts.{attribute_value, index_value}
+use Rattle.tf_expr_operators.specs.Operators.{unary_value}
+use Rattle.tf_expr_operators.specs.Parts.{attribute_value}
 use Rattle.tf_expr_syntax.specs.declared.fault.EvalFault.TheVariants.{TooLarge}
 use Rattle.tf_expr_eval.specs.Environment.{Environment}
 use Rattle.tf_expr_eval.specs.ExprMeaning as expr
-use Rattle.tf_expr_eval.specs.Meaning.{and_then, between, called, choice, chosen, count, meaning, meanings, woven}
+use Rattle.tf_expr_eval.specs.Meaning.{and_then, between, called, count, meaning, meanings, woven}
 use Rattle.tf_expr.specs.WithinLimits.{within_limits, TemplatesKeepLimits, ExpressionsKeepLimits}
 
 kept_by : (fits_weight fits_depth : Bool) (t : Tree) → nat_le (weight t) max_weight ≡ fits_weight → nat_le (depth t) max_depth ≡ fits_depth → and_then (limited t) limited ≡ limited t

@@ -7,18 +7,16 @@
 #![tactic(auto)]
 
 mod evaluating;
-mod laws;
+pub mod laws;
 mod looked;
 mod lookup;
 
 pub use evaluating::{eval_expr_with, eval_with};
-pub use laws::limits_keep_meanings;
 pub use looked::{Looked, looked_up, looked_up_expr};
 pub use lookup::LookUp;
 pub use tf_expr_eval::{
     Bounded, Constant, Constants, EvalFault, Found, Scope, eval, eval_bounded, eval_expr,
-    expr_knowledge_grows, find as find_value, find_expr, knowledge_grows, meaning_is_local,
-    values_are_within_limits,
+    find as find_value, find_expr,
 };
 pub use tf_expr_json::{
     Expr, ExprCause, ExprFault, MAX_DEPTH, Operator, Prefix, ReadFault, Reference, Template, Term,
