@@ -1,0 +1,3 @@
+pub mod Answering
+pub mod Limiting
+pub mod Meanings
