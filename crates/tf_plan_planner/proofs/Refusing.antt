@@ -1,5 +1,5 @@
 -- What the stages of a plan refuse.
-use Rattle.std.proofs.Common.{◌≡◌, inl, inr, ℕ, true, false, Bool, if◌then◌else◌, List, [], ◌∷◌, map, Option, None, Some, Ok, Err, refl, ap, ◌∙◌}
+use Rattle.std.proofs.Common.{◌≡◌, inl, inr, ℕ, true, false, Bool, if◌then◌else◌, List, [], ◌∷◌, map, Option, None, Some, Result, Ok, Err, IfErr, refl, ap, ◌∙◌}
 use Rattle.tf_config_data.specs.Config.{BlockView}
 use Rattle.tf_config_data.specs.Names.{NameView, Meant, a_local, a_block, meant_at, directly_before}
 use Rattle.tf_expand_keys.specs.Stages.{expansion}
@@ -77,3 +77,8 @@ fault-told variables names d (Resource n why) t refusal_views is acyclic refuses
 pub tells-weaker : (P Q : List RefusalView → Type 0) (refused : Refused) → ((refusal_views : List RefusalView) → P refusal_views → Q refusal_views) → Tells P refused → Tells Q refused
 tells-weaker P Q NoMemory f h = tt
 tells-weaker P Q (These refusals) f h = f (map refusal_of refusals.items) h
+
+-- an error that refuses for one reason refuses for a weaker one
+pub refused-weaker : {T : Type 0} (P Q : List RefusalView → Type 0) (answer : Result T Refused) → ((refusal_views : List RefusalView) → P refusal_views → Q refusal_views) → IfErr answer (Tells P) → IfErr answer (Tells Q)
+refused-weaker P Q (Ok t) f h = tt
+refused-weaker P Q (Err refused) f h = tells-weaker P Q refused f h
