@@ -1,3 +1,4 @@
+pub mod Words
 pub use Rattle.tf_value_data.specs.Tree
 pub use Rattle.tf_value_data.specs.Equality
 pub use Rattle.tf_value_data.specs.Parts
