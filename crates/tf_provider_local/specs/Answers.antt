@@ -35,10 +35,10 @@ message_of UnknownType = codes "unknown type"
 message_of Malformed = codes "malformed request"
 message_of BadPermission = codes "file_permission is not three octal digits"
 
--- A file that is wanted is answered by its object with what there is to say of its content, and no file by that it is gone.
+-- A file that is wanted is answered by its object with what there is to say of its content, and a file that isn't wanted by that it is gone, whatever the disk holds.
 abbrev pub answer_to : WantedView → Answer
 answer_to (file f) = object (described f.content f.object)
-answer_to (no_file name) = gone
+answer_to (no_file name sha256) = gone
 
 -- a request whose wish can't be fails, and leaves no object
 abbrev pub answer_or_fault : Result WantedView LocalFault → Answer

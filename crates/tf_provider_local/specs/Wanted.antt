@@ -1,5 +1,5 @@
 -- What a request wants to stand at a name.
-use Rattle.std.specs.Prelude.{ℕ, List, [], Option, Some, None, Result, Ok, Err, if◌then◌else◌, codes}
+use Rattle.std.specs.Prelude.{ℕ, List, [], Option, Some, None, option_map, Result, Ok, Err, if◌then◌else◌, codes}
 use Rattle.std.specs.Option.{option_map_or}
 use Rattle.std.specs.Str.{bytes_eq}
 use Rattle.tf_provider_local.specs.Mode.{mode_of}
@@ -18,15 +18,15 @@ pub record FileView : Type 0 where
   pub mode : ℕ
   pub object : Tree
 
--- what is to stand at a name: a file, or none
+-- what is wanted: a file, or that no file with a SHA-256, in hexadecimal, is at a name any more; which SHA-256 may not be known
 pub data WantedView : Type 0 where
   file : FileView → WantedView
-  no_file : List ℕ → WantedView
+  no_file : List ℕ → Option (List ℕ) → WantedView
 
 -- what the code's stands for
 abbrev pub wanted_view : Wanted → WantedView
 wanted_view (found.File f) = file (record { name = f.name.now; content = f.content.now; mode = f.mode; object = tree_of f.object.now })
-wanted_view (found.NoFile name) = no_file name.now
+wanted_view (found.NoFile f) = no_file f.name.now (option_map (λ t. t.now) f.sha256)
 
 -- the text at a key, if a text stands there
 abbrev pub text_in : Option Tree → Option (List ℕ)
@@ -59,11 +59,12 @@ file_in t =
     (text_in (part_at (codes "filename") t))
     (Err Malformed)
 
--- no file at the name that an object has
+-- An object names its file, and has the SHA-256 of what was written to it.
 abbrev pub gone_in : Tree → Result WantedView LocalFault
-gone_in t = option_map_or (λ name. Ok (no_file name)) (text_in (part_at (codes "filename") t)) (Err Malformed)
+gone_in t =
+    option_map_or (λ name. Ok (no_file name (text_in (part_at (codes "content_sha256") t)))) (text_in (part_at (codes "filename") t)) (Err Malformed)
 
--- A destroy wants no file at the name of the prior object; a create or an update wants the file of the object that is asked for.
+-- A destroy wants the file of the prior object to be gone; a create or an update wants the file of the object that is asked for.
 abbrev pub wanted : Asked → Result WantedView LocalFault
 wanted r =
     if bytes_eq r.type_name (codes "local_file") then (if is_destroy r.op then option_map_or gone_in r.prior (Err Malformed) else option_map_or file_in r.object (Err Malformed))

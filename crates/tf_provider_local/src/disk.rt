@@ -5,7 +5,8 @@ ghost use Rattle.std.specs.Prelude.{OnOk};
 
 use crate::answers::sha1_of;
 use crate::folders::{Made, folder_of, sync_folder};
-use crate::wanted::{Wanted, WantedFile};
+use crate::own::is_own;
+use crate::wanted::{UnwantedFile, Wanted, WantedFile};
 use std::alloc::{AllocError, Global};
 use std::fs::{OpenFile, OpenOptions};
 use std::io::{ErrorKind, Write};
@@ -13,16 +14,32 @@ use std::os::unix::fs::OpenOptionsExt;
 use std::rt::Files;
 use std::{fs, io};
 
-/// Has what is wanted be so, for the object at an address. Where that fails, all is as it was.
+/// How a name ends that was to be made as it is wanted.
+#[derive(Clone, Copy, Debug, PartialEq, Eq)]
+pub enum Ending {
+    /// As it is wanted.
+    Wanted,
+    /// A file that isn't the unwanted one is at its name, and stays.
+    Kept,
+}
+
+/// Makes what is wanted so, for the object at an address.
+///
+/// # Errors
+///
+/// If the disk refuses it, or if there is no memory. Then all is as it was.
 pub fn fulfil<R: Files>(
     alloc: Global,
     rt: &R,
     address: &str,
     wanted: &Wanted<'_>,
-) -> io::Result<()> {
+) -> io::Result<Ending> {
     match wanted {
-        Wanted::File(file) => put(alloc, rt, address, file),
-        Wanted::NoFile(name) => remove(rt, name),
+        Wanted::File(file) => {
+            put(alloc, rt, address, file)?;
+            Ok(Ending::Wanted)
+        }
+        Wanted::NoFile(file) => remove(alloc, rt, file),
     }
 }
 
@@ -80,16 +97,23 @@ fn fill<F: Write + OpenFile>(written: &mut F, file: &WantedFile<'_>) -> io::Resu
     written.sync_all()
 }
 
-/// Removes a file. One that isn't there is gone already.
-fn remove<R: Files>(rt: &R, name: &str) -> io::Result<()> {
-    match fs::remove_file(rt, name) {
-        Ok(()) => {
-            sync_folder(rt, name);
-            Ok(())
-        }
-        Err(error) if is_missing(error.kind()) => Ok(()),
-        Err(error) => Err(error),
+/// Removes a file if it is still the one that was made. One that isn't there is gone already.
+fn remove<R: Files>(alloc: Global, rt: &R, file: &UnwantedFile<'_>) -> io::Result<Ending> {
+    match remove_own(alloc, rt, file) {
+        Err(error) if is_missing(error.kind()) => Ok(Ending::Wanted),
+        ending => ending,
     }
+}
+
+/// Removes a file or a link at a name if its content is what was written. A folder there is an error.
+fn remove_own<R: Files>(alloc: Global, rt: &R, file: &UnwantedFile<'_>) -> io::Result<Ending> {
+    let metadata = fs::metadata(rt, file.name)?;
+    if !metadata.is_dir() && !is_own(alloc, rt, file, &metadata)? {
+        return Ok(Ending::Kept);
+    }
+    fs::remove_file(rt, file.name)?;
+    sync_folder(rt, file.name);
+    Ok(Ending::Wanted)
 }
 
 /// Whether there is no file, or no folder that it could stand in.

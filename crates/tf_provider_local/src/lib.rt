@@ -11,8 +11,8 @@
 //! | `content_md5`, `content_sha256` | String, computed | Its MD5 and its SHA-256, in hexadecimal. |
 //! | `content_base64sha256` | String, computed | Its SHA-256, in Base64. |
 //!
-//! A create makes the file, with the folders that it needs, or puts it in the place of the one that is there. A destroy removes it;
-//! one that isn't there is gone already. What the disk refuses is answered as want of memory, and standard error is told which file
+//! A create makes the file, with the folders that it needs, or puts it in the place of the one that is there. A destroy removes it
+//! if its SHA-256 is the object's. Any other file stays, and standard error names it. A file that isn't there is gone already. What the disk refuses is answered as want of memory, and standard error is told which file
 //! it was and why: so an answer depends on the request alone.
 #![tactic(auto)]
 
@@ -22,6 +22,7 @@ mod disk;
 mod folders;
 mod local_file;
 mod mode;
+mod own;
 mod wanted;
 
 pub use local_file::LocalFile;

@@ -17,8 +17,8 @@ const ALL: u32 = 0o777;
 pub enum Wanted<'a> {
     /// A file.
     File(WantedFile<'a>),
-    /// No file.
-    NoFile(&'a str),
+    /// No file of an object any more.
+    NoFile(UnwantedFile<'a>),
 }
 
 /// A file that is wanted.
@@ -34,6 +34,15 @@ pub struct WantedFile<'a> {
     pub object: &'a Value,
 }
 
+/// A file that isn't wanted any more.
+#[derive(Drop)]
+pub struct UnwantedFile<'a> {
+    /// Its name.
+    pub name: &'a str,
+    /// The SHA-256 of what was written to it, in hexadecimal, if its object has it.
+    pub sha256: Option<&'a str>,
+}
+
 /// Why a request wants nothing that can be.
 #[derive(Clone, Copy, Debug, PartialEq, Eq)]
 pub enum LocalFault {
@@ -45,7 +54,7 @@ pub enum LocalFault {
     BadPermission,
 }
 
-/// What a request wants: of a destroy that no file stands at the name of the prior object, else a file.
+/// Returns what a request wants: of a destroy that the prior object's file is gone, else a file.
 pub fn wants(request: &Request) -> Result<Wanted<'_>, LocalFault>
     ensures { MatchResult result
         (λ found. wanted (asked request.now) ≡ Ok (wanted_view found))
@@ -67,14 +76,17 @@ pub fn wants(request: &Request) -> Result<Wanted<'_>, LocalFault>
     }
 }
 
-/// That no file stands at the name that an object has.
+/// Returns that an object is to have no file any more.
 fn gone_in(prior: &Value) -> Result<Wanted<'_>, LocalFault>
     ensures { MatchResult result
         (λ found. gone_in (tree_of prior.now) ≡ Ok (wanted_view found))
         (λ fault. gone_in (tree_of prior.now) ≡ Err fault) }
 {
     match text_at(prior, "filename") {
-        Some(name) => Ok(Wanted::NoFile(name)),
+        Some(name) => Ok(Wanted::NoFile(UnwantedFile {
+            name,
+            sha256: text_at(prior, "content_sha256"),
+        })),
         None => Err(LocalFault::Malformed),
     }
 }
