@@ -35,10 +35,10 @@ message_of UnknownType = codes "unknown type"
 message_of Malformed = codes "malformed request"
 message_of BadPermission = codes "file_permission is not three octal digits"
 
--- The answer for a wanted file is its object with the digests of its content; for no file it is `gone`.
+-- The answer for a wanted file is its object with the digests of its content. For no file it is `gone`, whatever is on the disk.
 abbrev pub answer_to : WantedView → Answer
 answer_to (file f) = object (described f.content f.object)
-answer_to (no_file name) = gone
+answer_to (no_file name sha256) = gone
 
 -- a request that can't be fulfilled fails, and leaves no object
 abbrev pub answer_or_fault : Result WantedView LocalFault → Answer

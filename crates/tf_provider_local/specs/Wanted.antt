@@ -1,5 +1,5 @@
 -- What a request wants at a name: a file, or no file.
-use Rattle.std.specs.Prelude.{ℕ, List, [], Option, Some, None, Result, Ok, Err, if◌then◌else◌, codes}
+use Rattle.std.specs.Prelude.{ℕ, List, [], Option, Some, None, option_map, Result, Ok, Err, if◌then◌else◌, codes}
 use Rattle.std.specs.Option.{option_map_or}
 use Rattle.std.specs.Str.{bytes_eq}
 use Rattle.tf_provider_local.specs.Mode.{mode_of}
@@ -18,15 +18,15 @@ pub record FileView : Type 0 where
   pub mode : ℕ
   pub object : Tree
 
--- what is wanted at a name: a file, or no file
+-- What is wanted: a file; or no file at a name, if the file there has a SHA-256, in hexadecimal. The SHA-256 may be missing.
 pub data WantedView : Type 0 where
   file : FileView → WantedView
-  no_file : List ℕ → WantedView
+  no_file : List ℕ → Option (List ℕ) → WantedView
 
 -- the plain data of the code's value
 abbrev pub wanted_view : Wanted → WantedView
 wanted_view (found.File f) = file (record { name = f.name.now; content = f.content.now; mode = f.mode; object = tree_of f.object.now })
-wanted_view (found.NoFile name) = no_file name.now
+wanted_view (found.NoFile f) = no_file f.name.now (option_map (λ t. t.now) f.sha256)
 
 -- the text at a key, if there is one
 abbrev pub text_in : Option Tree → Option (List ℕ)
@@ -60,9 +60,10 @@ file_in t =
     (text_in (part_at (codes "filename") t))
     (Err Malformed)
 
--- no file at the name that an object has
+-- an object has the name of its file, and the SHA-256 of what was written to it
 abbrev pub gone_in : Tree → Result WantedView LocalFault
-gone_in t = option_map_or (λ name. Ok (no_file name)) (text_in (part_at (codes "filename") t)) (Err Malformed)
+gone_in t =
+    option_map_or (λ name. Ok (no_file name (text_in (part_at (codes "content_sha256") t)))) (text_in (part_at (codes "filename") t)) (Err Malformed)
 
 -- A destroy wants no file at the name of the prior object. A create or an update wants the file of the requested
 -- object.

@@ -5,7 +5,8 @@ ghost use Rattle.std.specs.Prelude.{OnOk};
 
 use crate::answers::sha1_of;
 use crate::folders::{Made, folder_of, sync_folder};
-use crate::wanted::{Wanted, WantedFile};
+use crate::own::is_own;
+use crate::wanted::{UnwantedFile, Wanted, WantedFile};
 use std::alloc::{AllocError, Global};
 use std::fs::{OpenFile, OpenOptions};
 use std::io::{ErrorKind, Write};
@@ -13,16 +14,32 @@ use std::os::unix::fs::OpenOptionsExt;
 use std::rt::Files;
 use std::{fs, io};
 
-/// Writes or removes the wanted file, for the object at an address. If this fails, everything is as it was before.
+/// What `fulfil` did.
+#[derive(Clone, Copy, Debug, PartialEq, Eq)]
+pub enum Ending {
+    /// The wanted file is written, or the file is removed or wasn't there.
+    Wanted,
+    /// The file at the name isn't the one that was made for the object, so it stays.
+    Kept,
+}
+
+/// Writes or removes the wanted file, for the object at an address.
+///
+/// # Errors
+///
+/// Fails if the disk refuses, or if memory runs out. Everything is then as it was before.
 pub fn fulfil<R: Files>(
     alloc: Global,
     rt: &R,
     address: &str,
     wanted: &Wanted<'_>,
-) -> io::Result<()> {
+) -> io::Result<Ending> {
     match wanted {
-        Wanted::File(file) => put(alloc, rt, address, file),
-        Wanted::NoFile(name) => remove(rt, name),
+        Wanted::File(file) => {
+            put(alloc, rt, address, file)?;
+            Ok(Ending::Wanted)
+        }
+        Wanted::NoFile(file) => remove(alloc, rt, file),
     }
 }
 
@@ -80,16 +97,23 @@ fn fill<F: Write + OpenFile>(written: &mut F, file: &WantedFile<'_>) -> io::Resu
     written.sync_all()
 }
 
-/// Removes a file. Succeeds if there is no such file.
-fn remove<R: Files>(rt: &R, name: &str) -> io::Result<()> {
-    match fs::remove_file(rt, name) {
-        Ok(()) => {
-            sync_folder(rt, name);
-            Ok(())
-        }
-        Err(error) if is_missing(error.kind()) => Ok(()),
-        Err(error) => Err(error),
+/// Removes a file if it is the one that was made for the object. Succeeds if there is no such file.
+fn remove<R: Files>(alloc: Global, rt: &R, file: &UnwantedFile<'_>) -> io::Result<Ending> {
+    match remove_own(alloc, rt, file) {
+        Err(error) if is_missing(error.kind()) => Ok(Ending::Wanted),
+        ending => ending,
     }
+}
+
+/// Removes a file, or a link to one, if its content is what was written for the object. Fails for a folder.
+fn remove_own<R: Files>(alloc: Global, rt: &R, file: &UnwantedFile<'_>) -> io::Result<Ending> {
+    let metadata = fs::metadata(rt, file.name)?;
+    if !metadata.is_dir() && !is_own(alloc, rt, file, &metadata)? {
+        return Ok(Ending::Kept);
+    }
+    fs::remove_file(rt, file.name)?;
+    sync_folder(rt, file.name);
+    Ok(Ending::Wanted)
 }
 
 /// Returns whether the file or its folder doesn't exist.

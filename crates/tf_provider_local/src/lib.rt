@@ -11,9 +11,10 @@
 //! | `content_md5`, `content_sha256` | String, computed | Its MD5 and its SHA-256, in hexadecimal. |
 //! | `content_base64sha256` | String, computed | Its SHA-256, in Base64. |
 //!
-//! A create writes the file, with the folders that it needs, or replaces an existing file. A destroy removes it, and
-//! succeeds if it doesn't exist. If the disk refuses, the answer is `NoMemory`, and standard error reports which file
-//! it was and why. So an answer depends only on the request, apart from `NoMemory`.
+//! A create writes the file, with the folders that it needs, or replaces an existing file. A destroy removes the file if its
+//! SHA-256 is the object's, and succeeds if there is no file. Any other file stays, and standard error names it. If the disk
+//! refuses, the answer is `NoMemory`, and standard error reports which file it was and why. So an answer depends only on the
+//! request, apart from `NoMemory`.
 #![tactic(auto)]
 
 mod answers;
@@ -22,6 +23,7 @@ mod disk;
 mod folders;
 mod local_file;
 mod mode;
+mod own;
 mod wanted;
 
 pub use local_file::LocalFile;

@@ -6,7 +6,7 @@ ghost use Rattle.tf_provider_local.specs.Schema.{file_schema};
 
 use crate::answers::{answer, refusal};
 use crate::attributes::file_schema;
-use crate::disk::fulfil;
+use crate::disk::{Ending, fulfil};
 use crate::wanted::{Wanted, wants};
 use std::alloc::{AllocError, Global};
 use std::io;
@@ -31,11 +31,16 @@ impl<R: Files + Eprint + Drop> LocalFile<R> {
         Ok(LocalFile { alloc, rt, schema })
     }
 
-    /// Writes or removes the wanted file, and returns whether that succeeded. If the disk refuses, reports on
-    /// standard error which file it was and why.
+    /// Writes or removes the wanted file, and returns whether that succeeded. Prints on standard error which file the
+    /// disk refused and why, and which file a destroy kept.
     fn is_fulfilled(&self, request: &Request, wanted: &Wanted<'_>) -> bool {
-        match fulfil(self.alloc, &self.rt, request.address.as_str(), wanted) {
-            Ok(()) => true,
+        let address = request.address.as_str();
+        match fulfil(self.alloc, &self.rt, address, wanted) {
+            Ok(Ending::Wanted) => true,
+            Ok(Ending::Kept) => {
+                let _ = print_kept(&self.rt, address, wanted);
+                true
+            }
             Err(error) => {
                 let _ = tell(&self.rt, wanted, &error);
                 false
@@ -76,6 +81,17 @@ impl<R: Files + Eprint + Drop> Provider for LocalFile<R> {
 fn tell<R: Eprint>(rt: &R, wanted: &Wanted<'_>, error: &io::Error) -> io::Result<()> {
     match wanted {
         Wanted::File(file) => eprintln!(rt; "error: cannot write {:?}: {error}", file.name),
-        Wanted::NoFile(name) => eprintln!(rt; "error: cannot remove {name:?}: {error}"),
+        Wanted::NoFile(file) => eprintln!(rt; "error: cannot remove {:?}: {error}", file.name),
+    }
+}
+
+/// Prints on standard error that a destroy left the file at its name, since that isn't the file of the object at the address.
+fn print_kept<R: Eprint>(rt: &R, address: &str, wanted: &Wanted<'_>) -> io::Result<()> {
+    match wanted {
+        Wanted::File(_) => Ok(()),
+        Wanted::NoFile(file) => eprintln!(rt;
+            "warning: kept {:?}: the destroyed object of {address} had another content",
+            file.name
+        ),
     }
 }

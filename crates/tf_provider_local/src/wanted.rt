@@ -18,7 +18,7 @@ pub enum Wanted<'a> {
     /// A file.
     File(WantedFile<'a>),
     /// No file.
-    NoFile(&'a str),
+    NoFile(UnwantedFile<'a>),
 }
 
 /// A wanted file.
@@ -32,6 +32,15 @@ pub struct WantedFile<'a> {
     pub mode: u32,
     /// The requested object.
     pub object: &'a Value,
+}
+
+/// The file of an object that is destroyed.
+#[derive(Drop)]
+pub struct UnwantedFile<'a> {
+    /// Its name.
+    pub name: &'a str,
+    /// The SHA-256 of what was written to it, in hexadecimal, if its object has it.
+    pub sha256: Option<&'a str>,
 }
 
 /// Why a request can't be fulfilled.
@@ -74,7 +83,10 @@ fn gone_in(prior: &Value) -> Result<Wanted<'_>, LocalFault>
         (λ fault. gone_in (tree_of prior.now) ≡ Err fault) }
 {
     match text_at(prior, "filename") {
-        Some(name) => Ok(Wanted::NoFile(name)),
+        Some(name) => Ok(Wanted::NoFile(UnwantedFile {
+            name,
+            sha256: text_at(prior, "content_sha256"),
+        })),
         None => Err(LocalFault::Malformed),
     }
 }
