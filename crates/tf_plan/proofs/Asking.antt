@@ -65,7 +65,7 @@ reached : (q : Asked) (o : Option Meaning) (s : SchemaView) → option_and_then 
     → (answer : Option Answer) × ((v : Verdict) × (option_map_or {U = ActionResultView} (call_of_provider q) o skipped ≡ called q answer v))
 reached q None s h = absurd (cc)
 reached q (Some m) s h =
-    (Some (m.answer q), verdict_on q (Some (m.answer q)) s, ap (λ (o : Option SchemaView). option_map_or {U = ActionResultView} (λ t. called q (Some (m.answer q)) (verdict_on q (Some (m.answer q)) t)) o skipped) h)
+    (Some (m.answer q), (verdict_on q (Some (m.answer q)) s, ap (λ (o : Option SchemaView). option_map_or {U = ActionResultView} (λ t. called q (Some (m.answer q)) (verdict_on q (Some (m.answer q)) t)) o skipped) h))
 
 shown : (ms : List Meaning) (q : Asked) (s : SchemaView) (other : Result Asked InstanceFaultView) → schema_in q.type_name ms ≡ Some s → call_of ms q ≡ comes_of ms other → other ≡ Ok q
 shown ms q s (Ok r) there same =

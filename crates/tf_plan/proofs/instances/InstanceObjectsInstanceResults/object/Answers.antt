@@ -6,7 +6,7 @@ use Rattle.tf_plan_data.specs.Action.{action_of}
 use Rattle.tf_state_data.specs.State.{state_of}
 use Rattle.tf_value_data.specs.Tree.{Tree, tree_of}
 use Rattle.tf_walk_action.proofs.Lookup.{object-here, object-later, object-none}
-use Rattle.tf_plan.proofs.instances.InstanceObjectsResults.object.Goals as goal
+use Rattle.tf_plan.proofs.instances.InstanceObjectsInstanceResults.object.Goals as goal
 
 pub returns-then-applies_to : goal.returns-then-applies_to
 returns-then-applies_to g c =

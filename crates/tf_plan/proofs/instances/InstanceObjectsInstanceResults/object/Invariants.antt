@@ -7,7 +7,7 @@ use Rattle.tf_plan.specs.Asks.{results_with}
 use Rattle.tf_plan_data.specs.Action.{action_of}
 use Rattle.tf_state_data.specs.State.{state_of}
 use Rattle.tf_walk_action.specs.Objects.{objects_seen}
-use Rattle.tf_plan.proofs.instances.InstanceObjectsResults.object.Given as goal
+use Rattle.tf_plan.proofs.instances.InstanceObjectsInstanceResults.object.Given as goal
 
 abbrev pub invariant-loop-action : goal.invariant-loop-action
 invariant-loop-action g l =

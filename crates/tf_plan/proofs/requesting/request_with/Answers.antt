@@ -13,7 +13,7 @@ use Rattle.tf_plan_data.specs.Plan.{plan_of}
 use Rattle.tf_plan_data.specs.Served.{IsServedBy}
 use Rattle.tf_provider_protocol.specs.Verdict.{asks_fully}
 use Rattle.tf_walk_action.proofs.Calling.{read_at, seen_objects, slice_get-map}
-use Rattle.tf_plan.proofs.requesting.prepared_call.Goals as goal
+use Rattle.tf_plan.proofs.requesting.request_with.Goals as goal
 
 pub ask_provider-requires-clause-declared : goal.ask_provider-requires-clause-declared
 ask_provider-requires-clause-declared g c =
@@ -38,7 +38,4 @@ returns g c =
     let is = rw c.as_slice-actions.ensures.value at c.index-actions-action.is in
     let here = slice_get-map action_of c.args.plan.now.actions.items n c.index-actions-action.result c.requires.inside is in
     let served = read_at action_of (IsServedBy ms) c.args.plan.now.actions.items n c.index-actions-action.result c.requires.served c.requires.inside is in
-    let same =
-    seen_objects plan (names_in c.in_ok-names.names) (map action_of c.as_slice-actions.result.now) (seen_by (results_with objects) c.predecessors-before.result.now) (seen_by (results_with objects) (predecessors_of plan.order n))
-    c.in_ok-names.ensures (ap (map action_of) c.as_slice-actions.ensures.value) (ap (seen_by (results_with objects)) (rw c.graph.ensures.graph at c.predecessors-before.ensures.nodes)) in
-    asked_here ms (λ q s. IsTrue (asks_fully q s)) plan n objects _ a c.ask_provider.result here served same c.ask_provider.ensures.served c.ask_provider.ensures.asked
+    asked_here ms (λ q s. IsTrue (asks_fully q s)) plan n objects _ a c.ask_provider.result here served c.objects_before-objects.ensures c.ask_provider.ensures.served c.ask_provider.ensures.asked
