@@ -12,9 +12,6 @@ use Rattle.tf_graph.proofs.Edges.{contains_head, contains_tail}
 use Rattle.tf_graph.specs.Digraph.{predecessors_of}
 use Rattle.tf_graph.specs.Solutions.{seen_by}
 use Rattle.tf_plan.specs.Asks.{HaveObjects, applies, IsAskedOf, results_with}
-use Rattle.tf_plan.specs.Fault.{HasFault, TellsFault}
-use Rattle.tf_plan.specs.declared.fault.RequestFault.{RequestFault}
-use Rattle.tf_plan.specs.declared.fault.RequestFault.TheVariants.{Argument, OutOfMemory}
 use Rattle.tf_plan_data.specs.Action.{ActionView}
 use Rattle.tf_plan_data.specs.Fits.{is_apply}
 use Rattle.tf_plan_data.specs.Plan.{PlanView, plan_names}
@@ -154,8 +151,3 @@ asked_here ms P plan n objects o a (Err e) here served same fully comes = tt
 pub empty_so_far : (plan : PlanView) (objects : ℕ → InstanceKeyView → Tree) (kept : List Resolved) → kept ≡ [] → ResolvedSoFar plan objects kept
 empty_so_far plan objects [] e resolved_names are n h = absurd (cc)
 empty_so_far plan objects (x ∷ xs) e resolved_names are n h = absurd (cc)
-
--- the fault of an instance is that of its request
-pub told : (P : InstanceFaultView → Type 0) (why : InstanceFaultView) (fault : RequestFault) → P why → HasFault why fault → TellsFault P fault
-told P why (Argument name detail) p h = (why, p, h)
-told P why OutOfMemory p h = absurd h
