@@ -1,0 +1,14 @@
+pub use Rattle.tf_cli_inputs.specs.Checked
+pub use Rattle.tf_cli_inputs.specs.Texts
+pub use Rattle.tf_cli_inputs.specs.Refusals
+pub use Rattle.tf_config_data.specs.Config
+pub use Rattle.tf_config_data.specs.Names
+pub use Rattle.tf_config_json.specs.Configuration
+pub use Rattle.tf_config_json.specs.Reading
+pub use Rattle.tf_config_json.specs.Values
+pub use Rattle.tf_config_json.specs.VariablesRead
+pub use Rattle.tf_config_json.specs.Laws
+pub use Rattle.tf_config_json.specs.VariableLaws
+pub use Rattle.tf_config_names.specs.Needs
+pub use Rattle.tf_config_names.specs.Judging
+pub use Rattle.tf_config_refusal.specs.Refusal

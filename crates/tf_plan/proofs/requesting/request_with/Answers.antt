@@ -1,0 +1,41 @@
+use Rattle.std.proofs.Common.{map, ap}
+use Rattle.std.specs.Prelude.{IsTrue}
+use Rattle.tf_config_data.specs.Config.{config_of}
+use Rattle.tf_config_data.specs.Names.{names_of}
+use Rattle.tf_config_names.specs.Table.{names_in}
+use Rattle.tf_graph.specs.Digraph.{predecessors_of}
+use Rattle.tf_graph.specs.Solutions.{seen_by}
+use Rattle.tf_plan.proofs.Asking.{asked_here, empty_so_far}
+use Rattle.tf_plan.specs.Asks.{results_with}
+use Rattle.tf_plan_data.specs.Action.{action_of}
+use Rattle.tf_plan_data.specs.Fits.{IsDeclared}
+use Rattle.tf_plan_data.specs.Plan.{plan_of}
+use Rattle.tf_plan_data.specs.Served.{IsServedBy}
+use Rattle.tf_provider_protocol.specs.Verdict.{asks_fully}
+use Rattle.tf_walk_action.proofs.Calling.{read_at, seen_objects, slice_get-map}
+use Rattle.tf_plan.proofs.requesting.request_with.Goals as goal
+
+pub ask_provider-requires-clause-declared : goal.ask_provider-requires-clause-declared
+ask_provider-requires-clause-declared g c =
+    let plan = c.args.plan.now in
+    read_at action_of (IsDeclared (names_of (config_of plan.config))) plan.actions.items c.args.action c.index-actions-action.result c.requires.fits.declared c.requires.inside (rw c.as_slice-actions.ensures.value at c.index-actions-action.is)
+
+pub ask_provider-requires-clause-served : goal.ask_provider-requires-clause-served
+ask_provider-requires-clause-served g c =
+    let ms = map (λ b. (goal.Provider-dyn g (b.vtable, b.value)).meaning b.value) c.args.providers.now in
+    read_at action_of (IsServedBy ms) c.args.plan.now.actions.items c.args.action c.index-actions-action.result c.requires.served c.requires.inside (rw c.as_slice-actions.ensures.value at c.index-actions-action.is)
+
+pub ask_provider-requires-clause-so_far : goal.ask_provider-requires-clause-so_far
+ask_provider-requires-clause-so_far g c = empty_so_far (plan_of c.args.plan.now) _ c.new-kept.result.items c.new-kept.ensures.items
+
+pub returns : goal.returns
+returns g c =
+    let ms = map (λ b. (goal.Provider-dyn g (b.vtable, b.value)).meaning b.value) c.args.providers.now in
+    let plan = plan_of c.args.plan.now in
+    let n = c.args.action in
+    let objects = g.R.Results.objects c.args.results.now in
+    let a = action_of c.index-actions-action.result in
+    let is = rw c.as_slice-actions.ensures.value at c.index-actions-action.is in
+    let here = slice_get-map action_of c.args.plan.now.actions.items n c.index-actions-action.result c.requires.inside is in
+    let served = read_at action_of (IsServedBy ms) c.args.plan.now.actions.items n c.index-actions-action.result c.requires.served c.requires.inside is in
+    asked_here ms (λ q s. IsTrue (asks_fully q s)) plan n objects _ a c.ask_provider.result here served c.objects_before-objects.ensures c.ask_provider.ensures.served c.ask_provider.ensures.asked
