@@ -13,7 +13,7 @@ mod refused;
 mod telling;
 mod wanted;
 
-pub use planner::{MAX_ACTIONS, plan};
+pub use planner::{MAX_ACTIONS, expanded, plan};
 pub use refused::{Refused, Unplanned};
 pub use tf_plan_data::{Action, Plan, Planned, Step, address_text};
 pub use tf_plan_order::Order;

@@ -196,8 +196,12 @@ fn plan_given(
     })
 }
 
-/// Returns the instance keys of each resource, or the refusal of the expansion.
-fn expanded(alloc: Global, declared: &Module) -> Result<Vec<InstanceKeys>, Refused>
+/// Returns the instance keys of each resource, by the place of its name.
+///
+/// # Errors
+///
+/// Fails with the refusal of the expansion, 6 to 9 or 14, or with `NoMemory`.
+pub fn expanded(alloc: Global, declared: &Module) -> Result<Vec<InstanceKeys>, Refused>
     ensures instances { IfOk result (λ shapes. AreInstances (entries_view declared.now.variables.now.entries) (names_in declared.now.names.now) (shapes_of shapes.items)) }
     ensures refused { IfErr result (Tells (AreUnexpanded (entries_view declared.now.variables.now.entries) (names_in declared.now.names.now))) }
 {
