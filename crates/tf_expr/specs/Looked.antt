@@ -28,12 +28,12 @@ answer_of a = record { first = string_bytes a.reference.first; name = string_byt
 abbrev pub answers_of : List ReferenceAnswer → List AnswerView
 answers_of = each answer_of
 
--- A reference stands for its first answer, and any other is missing.
+-- The value of a reference is its first answer. Any other reference is missing.
 abbrev pub answer_in : List AnswerView → Environment
 answer_in [] first name = Err Missing
 answer_in (a ∷ others) first name = if bytes_eq a.first first && bytes_eq a.name name then a.answer else answer_in others first name
 
--- what references stand for in the answers of a `Looked`
+-- the values of references in the answers of a `Looked`
 abbrev pub environment_of : Looked → Environment
 environment_of l = answer_in (answers_of l.answers.items)
 

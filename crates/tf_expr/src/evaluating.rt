@@ -18,7 +18,7 @@ use tf_value_data::Value;
 ///
 /// # Errors
 ///
-/// The first fault of its parts from left to right, as `eval` reports it: the fault of a reference that isn't evaluated is
+/// Fails with the first fault of its parts from left to right, as `eval` reports it: the fault of a reference that isn't evaluated is
 /// not reported. `OutOfMemory` if memory runs out, also while a reference is looked up that isn't evaluated.
 pub fn eval_with<S: LookUp>(
     alloc: Global,
@@ -36,7 +36,7 @@ pub fn eval_with<S: LookUp>(
 ///
 /// # Errors
 ///
-/// The first fault of its parts, as `eval_expr` reports it: the fault of a reference that isn't evaluated is not reported.
+/// Fails with the first fault of its parts, as `eval_expr` reports it: the fault of a reference that isn't evaluated is not reported.
 /// `OutOfMemory` if memory runs out, also while a reference is looked up that isn't evaluated.
 pub fn eval_expr_with<S: LookUp>(alloc: Global, expr: &Expr, scope: &S) -> Result<Value, EvalFault>
     ensures { Gives (meaning (S.environment scope.now) (tree_of expr.now)) result }

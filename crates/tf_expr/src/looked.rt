@@ -61,7 +61,7 @@ fn lent(answer: &Result<Bounded, EvalFault>) -> Result<&Value, EvalFault>
 ///
 /// # Errors
 ///
-/// Only if memory runs out. The fault of a reference is kept, and evaluation reports it only if it reaches the reference.
+/// Fails only if memory runs out. The fault of a reference is kept, and evaluation reports it only if it reaches the reference.
 pub fn looked_up<S: LookUp>(
     alloc: Global,
     template: &Template,
@@ -80,7 +80,7 @@ pub fn looked_up<S: LookUp>(
 ///
 /// # Errors
 ///
-/// Only if memory runs out. The fault of a reference is kept, and evaluation reports it only if it reaches the reference.
+/// Fails only if memory runs out. The fault of a reference is kept, and evaluation reports it only if it reaches the reference.
 pub fn looked_up_expr<S: LookUp>(alloc: Global, expr: &Expr, scope: &S) -> Result<Looked, EvalFault>
     ensures meaning { IfOk result (λ l. meaning (environment_of l) (tree_of expr.now) ≡ meaning (S.environment scope.now) (tree_of expr.now)) }
     ensures answers { IfOk result (λ l. answers_of l.answers.items ≡ answers_to (within_limits (S.environment scope.now)) (named_by (tree_of expr.now))) }

@@ -21,7 +21,7 @@ pub trait LookUp {
     ///
     /// # Errors
     ///
-    /// The fault that the environment gives the reference, `TooLarge` if its value is above the limits on values (`limited`
+    /// Fails with the fault that the environment gives the reference, `TooLarge` if its value is above the limits on values (`limited`
     /// checks this), and `OutOfMemory` if memory runs out.
     fn look_up(&self, alloc: Global, reference: &Reference) -> Result<Value, EvalFault>
         ensures { Gives (and_then (environment self.now (string_bytes reference.now.first) (string_bytes reference.now.name)) limited) result };
