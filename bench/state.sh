@@ -9,9 +9,9 @@ megabytes="${1:-40}"
 work="$(mktemp -d)"
 trap 'rm -rf "$work"' EXIT
 mkdir -p "$work/repo/crates/bench_state/src"
-for crate in tf_config_address tf_value tf_value_json tf_state_data tf_state; do cp -r "$here/../crates/$crate" "$work/repo/crates/"; done
+for crate in tf_config_address tf_value_data tf_value_json tf_state_data tf_state; do cp -r "$here/../crates/$crate" "$work/repo/crates/"; done
 cp "$here/state/main.rt.txt" "$work/repo/crates/bench_state/src/main.rt"
-{ grep -E '^(tf_config_address|tf_value|tf_value_json|tf_state_data|tf_state):' "$here/../crates.txt"; echo 'bench_state: tf_state serde_json anyhow'; } > "$work/repo/crates.txt"
+{ grep -E '^(tf_config_address|tf_value_data|tf_value_json|tf_state_data|tf_state):' "$here/../crates.txt"; echo 'bench_state: tf_state serde_json anyhow'; } > "$work/repo/crates.txt"
 program="$work/repo/crates/bench_state/out/bench_state"
 (cd "$work/repo/crates/bench_state" && rt run < /dev/null) > "$work/log" 2>&1 || [ -x "$program" ] || { tail -20 "$work/log"; exit 1; }
 peak() { python3 -c 'import resource, subprocess, sys; subprocess.check_call(sys.argv[1:], stdout=subprocess.DEVNULL); print(1024 * resource.getrusage(resource.RUSAGE_CHILDREN).ru_maxrss)' "$program" "$1" < "$work/text"; }

@@ -10,7 +10,7 @@ trap 'rm -rf "$work"' EXIT
 cp -r "$here/.." "$work/repo"
 mkdir -p "$work/repo/crates/bench_workers/src"
 cp "$here/workers/main.rt.txt" "$work/repo/crates/bench_workers/src/main.rt"
-echo 'bench_workers: tf_cli_inputs tf_plan tf_provider tf_walk_report tf_walk tf_provider_sim tf_walk_action anyhow' >> "$work/repo/crates.txt"
+echo 'bench_workers: tf_cli_inputs tf_plan_planner tf_provider tf_walk_report tf_walk tf_provider_sim tf_walk_action anyhow' >> "$work/repo/crates.txt"
 "$work/repo/tools/prove" bench_workers > "$work/log" 2>&1 || { tail -20 "$work/log"; exit 1; }
 g++ -O2 -std=c++17 -pthread -o "$work/yardstick" "$here/workers/yardstick.cpp"
 program="$work/repo/crates/bench_workers/out/bench_workers"

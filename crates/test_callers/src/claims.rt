@@ -68,8 +68,8 @@ impl Listener for HeardCount {
     }
 }
 
-/// Claims an action, waives its permit, finishes it and lets go of the edges out of it. Returns how many of these were the last
-/// into the action that they lead to, or `None` if it isn't claimed.
+/// Claims an action, waives its permit, finishes it and releases the edges out of it. Returns how many of these were
+/// the last into the action that they lead to, or `None` if it isn't claimed.
 fn perform(claims: &Claims, seat: &mut Seat, action: usize) -> Option<u64>
     requires seat { seat.old.table ≡ claims.now.table }
     requires action { action < claims.now.graph.nodes }
@@ -99,7 +99,7 @@ fn is_seen(claims: &Claims, first: &mut Seat, second: &mut Seat, third: &mut Sea
         && perform(claims, first, 0) == Some(1)
         // 0 is done.
         && perform(claims, second, 0).is_none()
-        // The edge was let go of.
+        // The edge was released.
         && perform(claims, second, 1) == Some(0)
         && claims.see(third, 0)
         && claims.see(third, 1)

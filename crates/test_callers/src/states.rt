@@ -7,7 +7,7 @@ use tf_config_address::{InstanceKey, ObjectId, ResourceAddr};
 use tf_state_data::{Object, Record, Resource, State};
 use tf_value_data::Value;
 
-/// A resource with one object.
+/// Returns a resource with one object.
 fn resource(alloc: Global) -> Result<Resource, AllocError> {
     let addr = ResourceAddr {
         type_name: String::from_str(alloc, "sim_net")?,

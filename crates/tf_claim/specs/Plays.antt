@@ -1,5 +1,5 @@
--- What each step on the shared claims tells the seat that makes it: its view afterwards, with which the rule
--- holds, and what was so in the state that the step met, in which the seat had its view before.
+-- What each step on the shared claims ensures for its seat: the view afterwards, with which the rule holds, and what
+-- was true in the state that the step met, in which the seat had its view from before.
 use Rattle.std.specs.Prelude.{◌≡◌, ◌<◌, ◌==◌, ◌⊎◌, ℕ, MatchBool, if◌then◌else◌}
 use Rattle.atomic_table.specs.Table.{Me, Step}
 use Rattle.tf_graph.specs.Digraph.{Digraph, source, target}
@@ -8,11 +8,11 @@ use Rattle.tf_claim.specs.Views.{times, saw, saw_through, knew, took, ended, wen
 use Rattle.tf_claim.specs.Claims.{Stands, free, done}
 use Rattle.tf_claim.specs.Moments.{WasDone, WasNotDone, WasFree, WasNotFree, WasHeldBack, WasLetThrough}
 
--- a seat of the table: its view, and the slots that it holds, which are none
+-- a seat of the table: its view, and the slots that it holds (the claims' table has no slots)
 abbrev pub Sat : Type 0
 Sat = Me (Unit {0}) View
 
--- the seat has this view afterwards, and its part is what it was
+-- the seat has this view afterwards, and its part is unchanged
 abbrev pub Leaves : Digraph → Sat → View → Sat → Type 0
 Leaves g before w after =
     (after.0 ≡ w) × (after.1 ≡ before.1) × Stands g w × (after.0.part ≡ before.0.part)
@@ -44,8 +44,8 @@ Ends g n st before found after =
     Leaves g before (ended n before.0) after
     × ((e : ℕ) → source g e ≡ n → times e before.0.let_go ≡ 0)
 
--- One was taken from the count of the action that an edge leads into. Where it was the last, each edge into that action was
--- let go of then, in the state that the step left; else one of them was still held.
+-- The step took one from the count of the action that an edge leads into. If the count was 1, each edge into that
+-- action was released in the state that the step left. Otherwise one of them was not yet released.
 abbrev pub Releases : Digraph → ℕ → Step (Unit {0}) → Sat → ℕ → Sat → Type 0
 Releases g e st before found after =
     Leaves g before (went e before.0) after

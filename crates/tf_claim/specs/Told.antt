@@ -1,4 +1,4 @@
--- What a step of a seat at the shared claims tells it.
+-- What a step ensures for its seat at the shared claims.
 use Rattle.std.specs.Prelude.{◌≡◌, ◌<◌, ◌⊎◌, ℕ, suc, List, [], ◌∷◌, Bool, Option, IsTrue, MatchBool, MatchOption, length}
 use Rattle.tf_graph.specs.Digraph.{Digraph, source, target}
 use Rattle.tf_claim.specs.Claims.{Stands}
@@ -6,7 +6,7 @@ use Rattle.tf_claim.specs.Moments.{WasDone, WasNotDone, WasFree, WasNotFree, Was
 use Rattle.tf_claim.specs.declared.seat.View.{View}
 use Rattle.tf_claim.specs.Views.{Seated, times, saw, saw_through, knew, took, ended, went, Owes, MayLetGo, OwnsWayTo}
 
--- whether an action was found done
+-- a look at an action, and whether it was found done
 pub record Sees (g : Digraph) (n : ℕ) (old new : Seated) (found : Bool) : Type 0 where
   pub table : new.table ≡ old.table
   pub seen : MatchBool found (new.view ≡ saw n old.view) (new.view ≡ old.view)
@@ -14,7 +14,7 @@ pub record Sees (g : Digraph) (n : ℕ) (old new : Seated) (found : Bool) : Type
   pub moment : MatchBool found (WasDone g n old.view) (WasNotDone g n old.view)
   pub kept : Stands g new.view
 
--- the claim of an action, or none
+-- an attempt to claim an action, and its permit if there is one
 pub record Tries (g : Digraph) (n : ℕ) (old new : Seated) (permit : Option ℕ) : Type 0 where
   pub table : new.table ≡ old.table
   pub claimed : MatchOption permit
@@ -28,21 +28,23 @@ pub record Tries (g : Digraph) (n : ℕ) (old new : Seated) (permit : Option ℕ
       (λ _. WasLetThrough g n old.view × WasFree g n (saw_through g n old.view))
   pub kept : Stands g new.view
 
--- the end of an action that the seat owed
+-- the end of an action that the seat had claimed and not finished
 pub record Finishes (g : Digraph) (n : ℕ) (old new : Seated) : Type 0 where
   pub table : new.table ≡ old.table
   pub ended_is : new.view ≡ ended n old.view
   pub free : (e : ℕ) → e < length g.edges → source g e ≡ n → MayLetGo g e new.view
   pub kept : Stands g new.view
 
--- an edge out of an action that the seat finished is let go of, and whether it was the last that held the action behind it
+-- the release of an edge out of an action that the seat finished, and whether it was the last unreleased edge into
+-- its target
 pub record LetsGo (g : Digraph) (e : ℕ) (old new : Seated) (last : Bool) : Type 0 where
   pub table : new.table ≡ old.table
   pub went_is : new.view ≡ went e old.view
   pub moment : MatchBool last (WasLetThrough g (target g e) new.view) (WasHeldBack g (target g e) new.view)
   pub kept : Stands g new.view
 
--- Edges are let go of one after another, from this view on, and so many of them were the last that held the action behind them.
+-- Edges are released one after another, beginning with this view. The count is how many of them were the last
+-- unreleased edge into their target.
 abbrev pub Frees : Digraph → List ℕ → View → ℕ → Type 0
 Frees g [] v count = count ≡ 0
 Frees g (e ∷ es) v count =

@@ -10,12 +10,12 @@ pub record Seated : Type 0 where
   pub table : TableId
   pub view : View
 
--- how often a number stands in a list
+-- how often a number occurs in a list
 abbrev pub times : ℕ → List ℕ → ℕ
 times n [] = 0
 times n (x ∷ xs) = (if x == n then 1 else 0) + times n xs
 
--- a view that is left where a seat was joined to another: it has seen and done nothing, and has no part
+-- the view that is left when a seat was joined to another: it has seen and done nothing, and has no part
 abbrev pub nothing : View
 nothing = record { seen = []; known = []; let_through = []; claimed = []; finished = []; let_go = []; part = [] }
 
@@ -23,15 +23,15 @@ nothing = record { seen = []; known = []; let_through = []; claimed = []; finish
 abbrev pub first_view : View
 first_view = record nothing { part = 0 ∷ [] }
 
--- what a seat has after another was split off it: half of each piece of its part, and all that it has seen and done
+-- a seat's view after another was split off: half of each piece of its part, and all that it has seen and done
 abbrev pub halved : View → View
 halved v = record v { part = map suc v.part }
 
--- what the seat begins with that was split off: the other halves, and it has seen and done nothing
+-- the view of the seat that was split off: the other halves, and it has seen and done nothing
 abbrev pub split_off : View → View
 split_off v = record nothing { part = map suc v.part }
 
--- A 2^d-th of the whole in 2^scale-ths; 0 where it is less than one of them.
+-- a 2^d-th of the whole, in 2^scale-ths; 0 if it is less than one of them
 abbrev pub piece_in : ℕ → ℕ → ℕ
 piece_in scale zero = 2 ^ scale
 piece_in zero (suc d) = 0
@@ -54,7 +54,7 @@ saw n v = record v { seen = n ∷ v.seen }
 abbrev pub knew : ℕ → View → View
 knew n v = record v { known = n ∷ v.known }
 
--- the seat has found each edge into an action let go of, and so whatever stands directly before it done
+-- the seat has found each edge into an action released, and so each action directly before it done
 abbrev pub saw_through : Digraph → ℕ → View → View
 saw_through g n v =
     record v { seen = predecessors_of g n ++ v.seen; let_through = n ∷ v.let_through }
@@ -67,20 +67,20 @@ took n v = record v { claimed = n ∷ v.claimed }
 abbrev pub ended : ℕ → View → View
 ended n v = record v { seen = n ∷ v.seen; finished = n ∷ v.finished }
 
--- the seat has let go of an edge
+-- the seat has released an edge
 abbrev pub went : ℕ → View → View
 went e v = record v { let_go = e ∷ v.let_go }
 
--- the seat has let go of several edges, one after another
+-- the seat has released several edges, one after another
 abbrev pub went_all : List ℕ → View → View
 went_all [] v = v
 went_all (e ∷ es) v = went_all es (went e v)
 
--- the edges out of an action, by their places in the graph's list, in its order
+-- the indices of the edges out of an action, in the order of the graph's list
 abbrev pub edges_from : Digraph → ℕ → List ℕ
 edges_from g n = map (λ p. p.0) (filter (λ p. p.1.0 == n) (enumerate_from 0 g.edges))
 
--- what two seats have seen and done
+-- the views of two seats, put together
 abbrev pub both : View → View → View
 both v w =
     record {
@@ -93,7 +93,7 @@ both v w =
       part = v.part ++ w.part;
     }
 
--- the steps of a seat that changed something
+-- the number of a seat's steps that changed something
 abbrev pub steps_of : View → ℕ
 steps_of v = length v.claimed + length v.finished + length v.let_go
 
@@ -101,15 +101,15 @@ steps_of v = length v.claimed + length v.finished + length v.let_go
 abbrev pub Owes : Digraph → ℕ → View → Type 0
 Owes g n v = (n < g.nodes) × (0 < times n v.claimed) × (times n v.finished ≡ 0)
 
--- the seat may let go of an edge: it finished the edge's source, and still holds the edge
+-- the seat may release an edge: it finished the edge's source, and hasn't released the edge
 abbrev pub MayLetGo : Digraph → ℕ → View → Type 0
 MayLetGo g e v = (e < length g.edges) × (0 < times (source g e) v.finished) × (times e v.let_go ≡ 0)
 
--- the seat has let go of every edge into an action
+-- the seat has released every edge into an action
 abbrev pub OwnsWayTo : Digraph → ℕ → View → Type 0
 OwnsWayTo g n v = (e : ℕ) → e < length g.edges → target g e ≡ n → 0 < times e v.let_go
 
--- the seat has claimed and finished every action, each once, and let go of every edge, each once
+-- the seat has claimed and finished every action once, and released every edge once
 pub record IsWhole (g : Digraph) (v : View) : Type 0 where
   pub claimed : (n : ℕ) → n < g.nodes → times n v.claimed ≡ 1
   pub finished : (n : ℕ) → n < g.nodes → times n v.finished ≡ 1

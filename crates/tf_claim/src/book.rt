@@ -1,4 +1,4 @@
-//! The book of claims in its plain form: one owner moves each action from free through taken to done.
+//! The book of claims for one owner, which moves each action from free through taken to done.
 
 ghost use Rattle.std.specs.List.{list_all};
 ghost use Rattle.std.specs.Prelude.{◌≡◌, ◌<◌, IsTrue, true, false, replicate, length, All, MatchOption, MatchResult, IfOk};
@@ -9,19 +9,19 @@ use std::alloc::{AllocError, Global};
 use std::marker::Model;
 use tf_graph::Graph;
 
-/// How far an action is.
+/// The stage of an action.
 #[derive(Clone, Copy, Debug, PartialEq, Eq)]
 pub enum Stage {
-    /// Nobody claimed the action.
+    /// The action isn't claimed.
     Free,
-    /// The action was claimed, and isn't done.
+    /// The action is claimed, and not done.
     Taken,
     /// The action is done.
     Done,
 }
 
-/// The stage of each action of a graph. An action can be claimed once, when all actions directly before
-/// it are done. Contracts see a `Ledger`: the graph, and the stages in the order of the actions.
+/// The stage of each action of a graph. An action can be claimed once, when all actions directly before it are done.
+/// Contracts see a `Ledger`: the graph, and the stages in the order of the actions.
 #[derive(Drop)]
 pub struct Book {
     graph: Graph,
@@ -39,7 +39,7 @@ impl Model for Book {
 }
 
 impl Book {
-    /// The book of a graph's actions, all of them free. It keeps its own copy of the graph.
+    /// Builds the book of a graph's actions, all of them free. It keeps its own copy of the graph.
     pub fn new(alloc: Global, graph: &Graph) -> Result<Book, AllocError>
         ensures graph { IfOk result (λ book. book.graph ≡ graph.now) }
         ensures free { IfOk result (λ book. book.stages ≡ replicate graph.now.nodes Stage.Free) }
@@ -49,7 +49,7 @@ impl Book {
         Ok(Book { graph, stages })
     }
 
-    /// The graph of the actions.
+    /// Returns the graph of the actions.
     pub fn graph(&self) -> &Graph
         ensures graph { result.now ≡ self.now.graph }
         ensures kept { IsKept self.now }
@@ -57,7 +57,7 @@ impl Book {
         &self.graph
     }
 
-    /// Whether an action is done.
+    /// Returns whether an action is done.
     pub fn see(&self, action: usize) -> bool
         requires { action < self.now.graph.nodes }
         ensures done { result ≡ is_done (stage_in self.now.stages action) }
@@ -66,8 +66,8 @@ impl Book {
         self.stages[action] == Stage::Done
     }
 
-    /// Claims an action: `None` where an action before it isn't done or it isn't free, and then nothing
-    /// changes. Otherwise the action is taken, and the permit is its own.
+    /// Claims an action and returns its permit. Returns `None` if the action isn't free or an action directly before
+    /// it isn't done, and then nothing changes.
     pub fn claim(&mut self, action: usize) -> Option<Permit>
         requires { action < self.old.graph.nodes }
         ensures claimed { MatchOption result
@@ -85,8 +85,7 @@ impl Book {
         Some(Permit::of(action))
     }
 
-    /// Reports an action as done. Where the action isn't taken this is refused: nothing changes, and what
-    /// was handed in comes back.
+    /// Reports an action as done. Fails with what was passed in if the action isn't taken, and then nothing changes.
     pub fn finish(&mut self, finished: Finished) -> Result<(), Finished>
         ensures finished { MatchResult result
             (λ _. (is_taken (stage_in self.old.stages finished) ≡ true)
@@ -105,14 +104,14 @@ impl Book {
     }
 }
 
-/// A free stage for each of so many actions.
+/// Builds a list of the given number of free stages.
 fn all_free(alloc: Global, count: usize) -> Result<Vec<Stage>, AllocError>
     ensures { IfOk result (λ stages. stages.items ≡ replicate count Stage.Free) }
 {
     vec![in alloc; Stage::Free; count]
 }
 
-/// Whether an action is taken; one that isn't there isn't.
+/// Returns whether an action is taken; false if there is no such action.
 fn is_taken(stages: &[Stage], action: usize) -> bool
     ensures taken { result ≡ is_taken (stage_in stages.now action) }
     ensures within { IsTrue result → action < length stages.now }
@@ -120,7 +119,7 @@ fn is_taken(stages: &[Stage], action: usize) -> bool
     action < stages.len() && stages[action] == Stage::Taken
 }
 
-/// Whether each of some actions is done.
+/// Checks that each of the given actions is done.
 fn all_done(stages: &[Stage], actions: &[usize]) -> bool
     requires { All (λ n. n < length stages.now) actions.now }
     ensures { result ≡ list_all (λ n. is_done (stage_in stages.now n)) actions.now }

@@ -1,5 +1,5 @@
-//! The shared form of the book of claims: any number of workers claim and finish actions, each by single
-//! atomic steps on words, without a lock and without waiting.
+//! The book of claims for any number of workers, which claim and finish actions by single atomic steps on words,
+//! without a lock and without waiting.
 
 ghost use Rattle.std.specs.Prelude.{◌≡◌, ◌<◌, ◌≤◌, ◌+◌, ◌*◌, ◌⊎◌, ◌↔◌, ℕ, false, length, IsTrue, IsOk, IfOk, IfSome, MatchBool, MatchOption, slice_index};
 ghost use Rattle.tf_graph.specs.Digraph.{Digraph, source, target};
@@ -17,20 +17,20 @@ use std::alloc::{AllocError, Global};
 use std::marker::{Brand, Model};
 use tf_graph::Graph;
 
-/// An action's word where nobody claimed it.
+/// The word of an action that isn't claimed.
 const FREE: u64 = 0;
-/// Where somebody claimed it, and hasn't finished it.
+/// The word of an action that is claimed and not finished.
 const TAKEN: u64 = 1;
-/// Where it is done.
+/// The word of an action that is done.
 const DONE: u64 = 2;
-/// So many words lie side by side for each action, its stage and its count first: a cache line's worth, so
-/// that no two actions share one.
+/// The number of words for each action, of which the first two are its stage and its count. They fill a cache line,
+/// so that no two actions share one.
 const WORDS_EACH: usize = 8;
 
-/// The claims on a graph's actions, for any number of workers. An action can be claimed once, and only
-/// after each edge into it was let go of, by the seat that finished the edge's source. A seat is used only
-/// with the claims that it came from. Contracts see which claims these are, and the graph. What the rule says of several
-/// seats at once stands in `laws`.
+/// The claims on a graph's actions, for any number of workers. An action can be claimed once, and only after each
+/// edge into it was released by the seat that finished the edge's source. A seat works only with the claims that it
+/// came from. Contracts see which claims these are, and the graph. `laws` says what the rule implies for several
+/// seats at once.
 #[derive(Drop)]
 pub struct Claims {
     graph: Graph,
@@ -52,8 +52,8 @@ impl Model for Claims {
 }
 
 impl Claims {
-    /// The claims on a graph's actions, all of them free, and their first seat, which is the only one: its part
-    /// is the whole. They keep their own copy of the graph.
+    /// Builds the claims on a graph's actions, all of them free, and the first seat, which is the only one: its part
+    /// is the whole. The claims keep their own copy of the graph.
     pub fn new(alloc: Global, graph: &Graph) -> Result<(Claims, Seat), AllocError>
         ensures graph { IfOk result (λ made. made.0.graph ≡ graph.now) }
         ensures seat { IfOk result (λ made. (made.1.table ≡ made.0.table) × (made.1.view ≡ first_view)) }
@@ -66,15 +66,15 @@ impl Claims {
         Ok((Claims { graph, table }, Seat { place, steps: 0 }))
     }
 
-    /// The graph of the actions.
+    /// Returns the graph of the actions.
     pub fn graph(&self) -> &Graph
         ensures { result.now ≡ self.now.graph }
     {
         &self.graph
     }
 
-    /// Another seat, which has seen and done nothing. Each of the two then has half of the part that the one
-    /// had. It never errs.
+    /// Splits a new seat off, which has seen and done nothing. Each of the two has half of the part that the one had.
+    /// Never fails.
     pub fn split_seat(&self, seat: &mut Seat) -> Result<Seat, AllocError>
         requires { seat.old.table ≡ self.now.table }
         ensures same { (seat.new.table ≡ seat.old.table) × (seat.new.view ≡ halved seat.old.view) }
@@ -85,9 +85,8 @@ impl Claims {
         Ok(Seat { place, steps: 0 })
     }
 
-    /// Whether an action is done, by one load. There was a state that kept the rule, with the seat's view in it,
-    /// in which the action was done, or wasn't, as the answer says. A seat that has seen an action done or has
-    /// finished it is told so again.
+    /// Returns whether an action is done, by one load. The answer was true in some state that kept the rule and had
+    /// the seat's view in it. Always returns true for an action that the seat has seen done or has finished.
     pub fn see(&self, seat: &mut Seat, action: usize) -> bool
         requires seat { seat.old.table ≡ self.now.table }
         requires action { action < self.now.graph.nodes }
@@ -118,10 +117,10 @@ impl Claims {
         found == DONE
     }
 
-    /// Claims an action, by a load of its count and one exchange. `None` where at the load an edge into it had
-    /// been let go of by nobody, and then nothing is known; or where at the exchange the action wasn't free,
-    /// which the seat then knows. Where the seat itself let go of each edge into the action, or there is none,
-    /// only the second is left. A permit comes where each edge had been let go of and the action was free.
+    /// Claims an action, by a load of its count and one exchange, and returns its permit. Returns `None` if, at the
+    /// load, an edge into the action wasn't released; then the seat learns nothing. Also returns `None` if, at the
+    /// exchange, the action wasn't free; then the seat knows that. If the seat itself released each edge into the
+    /// action, or there is none, only the second can happen.
     pub fn claim(&self, seat: &mut Seat, action: usize) -> Option<Permit>
         requires seat { seat.old.table ≡ self.now.table }
         requires action { action < self.now.graph.nodes }
@@ -158,7 +157,7 @@ impl Claims {
         Some(Permit::of(action))
     }
 
-    /// Whether an edge into an action is still held, by one load of its count.
+    /// Returns whether an edge into an action isn't yet released, by one load of its count.
     fn is_held_back<B: About>(&self, seat: &mut Seat, action: usize) -> bool
         requires about { (B.graph ≡ self.now.graph) × (B.number ≡ action) }
         requires seat { seat.old.table ≡ self.now.table }
@@ -180,7 +179,8 @@ impl Claims {
         count != 0
     }
 
-    /// Whether one exchange made an action taken. The seat has found each edge into it let go of.
+    /// Marks an action as taken, by one exchange, and returns whether it was free. The seat has found each edge into
+    /// it released.
     fn takes<B: About>(&self, seat: &mut Seat, action: usize) -> bool
         requires about { (B.graph ≡ self.now.graph) × (B.number ≡ action) }
         requires seat { seat.old.table ≡ self.now.table }
@@ -206,8 +206,8 @@ impl Claims {
         true
     }
 
-    /// Reports an action as done that this seat claimed and hasn't finished, by one store. Then each edge
-    /// out of it may be let go of.
+    /// Reports as done an action that this seat claimed and hasn't finished, by one store. Then each edge out of it
+    /// may be released.
     pub fn finish(&self, seat: &mut Seat, finished: Finished)
         requires seat { seat.old.table ≡ self.now.table }
         requires owed { Owes self.now.graph finished seat.old.view }
@@ -233,9 +233,9 @@ impl Claims {
         finished.close();
     }
 
-    /// Lets go of an edge, named by its place in the graph's list, whose source this seat finished and
-    /// which it hasn't let go of, by one `fetch_sub` on the count of the action that the edge leads into. Says
-    /// whether it was the last edge into that action that somebody held.
+    /// Releases an edge, given by its index in the graph's list, by one `fetch_sub` on the count of the edge's
+    /// target. The seat has finished the edge's source and hasn't released the edge. Returns whether it was the last
+    /// unreleased edge into its target.
     pub fn let_go(&self, seat: &mut Seat, edge: usize) -> bool
         requires seat { seat.old.table ≡ self.now.table }
         requires may { MayLetGo self.now.graph edge seat.old.view }
@@ -249,9 +249,9 @@ impl Claims {
         self.let_go_as::<Brand>(seat, edge)
     }
 
-    /// Lets go of each edge out of an action that this seat finished, in the order of the graph's list, none
-    /// of which it has let go of. The listener, which heard of nothing yet, hears of each action behind one of
-    /// them that was the last into it. It takes time linear in their number.
+    /// Releases each edge out of an action, in the order of the graph's list. The seat has finished the action and
+    /// has released none of these edges. The listener, which has heard of nothing yet, hears of the target of each
+    /// edge that was the last unreleased one into it. Takes time linear in the number of edges.
     pub fn let_go_from<L: Listener>(&self, seat: &mut Seat, action: usize, listener: &mut L)
         requires bound { self.now.graph.nodes ≤ L.bound }
         requires none { L.heard listener.old ≡ 0 }
@@ -271,7 +271,7 @@ impl Claims {
         }
     }
 
-    /// Lets go of an edge that the step is about.
+    /// Releases the edge that the step is about.
     fn let_go_as<B: About>(&self, seat: &mut Seat, edge: usize) -> bool
         requires about { (B.graph ≡ self.now.graph) × (B.number ≡ edge) }
         requires seat { seat.old.table ≡ self.now.table }
@@ -282,7 +282,7 @@ impl Claims {
         self.release::<B>(seat, action)
     }
 
-    /// Lets go of the edge at a place among those out of an action.
+    /// Releases the edge at a place among those out of an action.
     fn let_go_out_as<B: About>(&self, seat: &mut Seat, action: usize, place: usize) -> bool
         requires about { (B.graph ≡ self.now.graph)
             × (B.number ≡ slice_index (edges_from self.now.graph action) place) }
@@ -296,7 +296,7 @@ impl Claims {
         self.release::<B>(seat, next)
     }
 
-    /// Takes one from the count of the action that an edge leads into, and says whether it was the last.
+    /// Takes one from the count of an edge's target, and returns whether it was the last.
     fn release<B: About>(&self, seat: &mut Seat, action: usize) -> bool
         requires about { (B.graph ≡ self.now.graph) × (target self.now.graph B.number ≡ action) }
         requires seat { seat.old.table ≡ self.now.table }
@@ -312,7 +312,7 @@ impl Claims {
         found == 1
     }
 
-    /// Puts what another seat has seen and done to this one's, and its part.
+    /// Adds to a seat what another has seen and done, and the other's part.
     pub fn join_seat(&self, seat: &mut Seat, other: Seat)
         requires seat { seat.old.table ≡ self.now.table }
         requires other { other.table ≡ self.now.table }
@@ -339,17 +339,17 @@ impl Claims {
         seat.steps += steps;
     }
 
-    /// How many steps of a seat changed something: its claims, the actions that it finished and the edges
-    /// that it let go of.
+    /// Returns how many steps of a seat changed something: its claims, the actions that it finished and the edges
+    /// that it released.
     pub fn steps(&self, seat: &Seat) -> u64
         ensures { result ≡ steps_of seat.now.view }
     {
         seat.steps
     }
 
-    /// Ends the claims, and says whether this seat, with all that were joined to it, claimed and finished
-    /// every action and let go of every edge, each once: exactly where its steps are the edges and twice
-    /// the actions.
+    /// Ends the claims, and returns whether this seat, with all that were joined to it, claimed and finished every
+    /// action once and released every edge once. This is so exactly if its steps are the number of edges plus twice
+    /// the number of actions.
     pub fn close(self, seat: Seat) -> bool
         requires { seat.table ≡ self.table }
         ensures whole { IsTrue result ↔ IsWhole self.graph seat.view }
@@ -365,8 +365,7 @@ impl Claims {
     }
 }
 
-/// The words before anyone has claimed anything: each action is free, and its count is the number of edges
-/// into it.
+/// Builds the words before any action is claimed: each action is free, and its count is the number of edges into it.
 fn first_words(alloc: Global, graph: &Graph) -> Result<Vec<u64>, AllocError>
     ensures { IfOk result (λ words. Begins graph.now words.items) }
 {

@@ -1,8 +1,8 @@
 //! Claims on the actions of a plan: who may call an action's provider, and when.
 //!
-//! A `Permit` is the right to call the provider of one action, and `Finished` says that this right was
-//! spent. Neither can be copied or let go, so an action that was claimed is called or waived, and then
-//! finished. `Book` is the book of claims of one worker, `Claims` that of many.
+//! A `Permit` is the right to call the provider of one action, and `Finished` is the evidence that this right was
+//! spent. Neither can be copied or dropped, so an action that was claimed is called or waived, and then finished.
+//! `Book` is the book of claims of one worker, `Claims` that of many.
 #![tactic(auto)]
 
 pub mod book;

@@ -1,13 +1,13 @@
-//! Who hears of actions that wait for nothing more.
+//! Listeners to actions that wait for nothing more.
 
 ghost use Rattle.std.specs.Prelude.{◌≡◌, ◌+◌, ◌<◌, ◌^◌, ℕ};
 
-/// Who hears of actions that the last edge into was let go of, as a worker that gives hints at them.
+/// A listener that hears of an action when the last edge into it is released, such as a worker that gives hints.
 pub trait Listener {
-    /// Below which number the actions are.
+    /// The bound of the actions' numbers: each is below it.
     ghost bound: { ℕ };
 
-    /// How often it heard of one.
+    /// The number of actions that it heard of.
     ghost heard: { Self → ℕ };
 
     /// Hears of an action.

@@ -1,11 +1,11 @@
-//! The right to call an action's provider, and what is left of it once it is spent.
+//! The right to call an action's provider, and what is left after it is spent.
 
 ghost use Rattle.std.specs.Prelude.{◌≡◌, ℕ};
 
 use std::marker::Model;
 
-/// The right to call the provider of one action, once. A permit can't be copied or let go: it is spent
-/// by a call, or by `waive`. Contracts see the action's number.
+/// The right to call the provider of one action, once. A permit can be neither copied nor dropped: a call, or
+/// `waive`, spends it. Contracts see the action's number.
 pub struct Permit {
     action: usize,
 }
@@ -16,8 +16,8 @@ impl Model for Permit {
     ghost view = { λ permit. permit.action };
 }
 
-/// What is left of a permit that was spent: the right to report its action as done, once. Contracts
-/// see the action's number.
+/// What is left of a spent permit: the right to report its action as done, once. It can be neither copied nor
+/// dropped. Contracts see the action's number.
 pub struct Finished {
     spent: usize,
 }
@@ -29,14 +29,14 @@ impl Model for Finished {
 }
 
 impl Permit {
-    /// The permit of an action. Only a claim makes one.
+    /// Returns the permit of an action. Only a claim calls this.
     pub(crate) fn of(action: usize) -> Permit
         ensures { result ≡ action }
     {
         Permit { action }
     }
 
-    /// The action that may be called.
+    /// Returns the action that may be called.
     pub fn action(&self) -> usize
         ensures { result ≡ self.now }
     {
@@ -45,12 +45,12 @@ impl Permit {
 }
 
 impl Finished {
-    /// Ends what was reported. Only a book does this, once the action is done.
+    /// Consumes the right to report. Only a book of claims calls this, once the action is done.
     pub(crate) fn close(self) {
         let Finished { spent: _ } = self;
     }
 
-    /// The action whose permit was spent.
+    /// Returns the action whose permit was spent.
     pub fn action(&self) -> usize
         ensures { result ≡ self.now }
     {
@@ -58,7 +58,7 @@ impl Finished {
     }
 }
 
-/// Spends a permit: what is left says that its action may be reported as done.
+/// Spends a permit, and returns the right to report its action as done.
 pub fn waive(permit: Permit) -> Finished
     ensures { result ≡ permit }
 {

@@ -1,4 +1,4 @@
-//! The rule of the shared claims as their table keeps it, and what each step tells.
+//! The rule of the shared claims as their table keeps it, and what each step ensures.
 
 ghost use Rattle.std.specs.Prelude.{ℕ, []};
 ghost use Rattle.tf_graph.specs.Digraph.{Digraph};
@@ -62,21 +62,21 @@ impl<B: About> Play<(), View> for End<B> {
     ghost then = { Ends B.graph B.number };
 }
 
-/// One taken from the count of the action that an edge leads into.
+/// A subtraction of one from the count of an edge's target.
 pub struct Release<B>(PhantomData<B>);
 
 impl<B: About> Play<(), View> for Release<B> {
     ghost then = { Releases B.graph B.number };
 }
 
-/// A load that tells no more than that the rule holds.
+/// A load that ensures only that the rule holds.
 pub struct Rest<B>(PhantomData<B>);
 
 impl<B: About> Play<(), View> for Rest<B> {
     ghost then = { Rests B.graph };
 }
 
-/// A new seat begins with half of the old one's part and nothing else, and the old one keeps the rest.
+/// A split: the new seat begins with half of the old one's part and nothing else, and the old one keeps the rest.
 pub struct Another;
 
 impl Split<View> for Another {
@@ -87,7 +87,7 @@ impl Split<View> for Another {
     ghost right = { split_off };
 }
 
-/// A seat takes over what another has seen and done.
+/// A join: a seat takes over what another has seen and done.
 pub struct Together;
 
 impl Join<View> for Together {

@@ -1,31 +1,32 @@
-//! What one worker brings to the shared book of claims: what it has seen and done there.
+//! A worker's access to the shared book of claims, and what it has seen and done there.
 
 ghost use Rattle.std.specs.Prelude.{◌≡◌};
 
 use std::collections::LinkedList;
 use std::marker::Model;
 
-/// What a seat has seen and done, the latest first, and its part of the whole. It is for contracts alone: no value of it is made.
+/// What a seat has seen and done, the latest first, and its part of the whole. It is for contracts alone: no value of
+/// it is created.
 pub struct View {
     /// Actions that it found done.
     pub seen: LinkedList<usize>,
     /// Actions that it tried to claim and found taken or done.
     pub known: LinkedList<usize>,
-    /// Actions of which it found each edge into them let go of.
+    /// Actions for which it found each edge into them released.
     pub let_through: LinkedList<usize>,
     /// Actions that it claimed.
     pub claimed: LinkedList<usize>,
     /// Actions that it finished.
     pub finished: LinkedList<usize>,
-    /// Edges that it let go of, by their place in the graph's list.
+    /// Edges that it released, by their index in the graph's list.
     pub let_go: LinkedList<usize>,
-    /// Its part of the whole that all seats have together, in pieces: a number d stands for a 2^d-th. The first
-    /// seat begins with the whole, a split halves each piece, and a join puts two parts together.
+    /// Its part of the whole that all seats share, in pieces: a number d is a 2^d-th of the whole. The first seat
+    /// begins with the whole, a split halves each piece, and a join puts two parts together.
     pub part: LinkedList<usize>,
 }
 
-/// A worker's seat at the claims that it came from, with which it makes its steps. Contracts see which
-/// claims these are, and a `View`.
+/// A worker's access to the claims that it came from, with which it makes its steps. Contracts see which claims these
+/// are, and a `View`.
 #[derive(Drop)]
 pub struct Seat {
     pub(crate) place: atomic_table::Seat<(), View>,

@@ -5,9 +5,13 @@ ghost use Rattle.tf_walk_action.specs.Words.{action_of, AreServed, plan_of, stat
 ghost use Rattle.tf_cli.specs.Applies.{IsPlanOf, IsPlanText, text_in};
 ghost use Rattle.tf_cli.specs.Refusals.{AreRefusals, RefusesBy};
 ghost use Rattle.tf_cli_inputs.specs.Texts.{the_texts};
-ghost use Rattle.tf_plan_planner.specs.Refused.{Tells};
+ghost use Rattle.tf_config_data.specs.Config.{config_of};
+ghost use Rattle.tf_plan_planner.specs.Plan.{IsPlan};
+ghost use Rattle.tf_plan_planner.specs.Refused.{AreRefused, Tells};
+ghost use Rattle.tf_value_data.specs.Tree.{entries_view};
 ghost use Rattle.tf_plan_planner.specs.declared.refused.Refused.TheVariants.{NoMemory};
 ghost use Rattle.tf_config_refusal.specs.Refusal.{refusal_of};
+ghost use Rattle.tf_state.specs.Table.{IsPlannable};
 ghost use Rattle.tf_state.specs.Valid.{IsValid};
 
 use std::alloc::Global;
@@ -85,16 +89,30 @@ pub fn plan_of_texts(
     ensures refused { IfErr result (Tells (AreRefusals (map meaning providers.now) (the_texts texts.now.config.now (option_map (λ s. s.now) texts.now.vars) (option_map (λ s. s.now) texts.now.state)))) }
 {
     match read_texts(alloc, texts.config, texts.vars, texts.state, texts.lineage) {
-        Ok(inputs) => {
-            let Inputs {
-                config,
-                values,
-                dependence,
-                prior,
-            } = inputs;
-            plan(alloc, prior, config, values, dependence, providers)
-        }
+        Ok(inputs) => planned_from(alloc, inputs, providers),
         Err(refusal) => Err(one_refusal(alloc, refusal)),
+    }
+}
+
+/// Plans what was read from texts. A plan can start from the prior state.
+fn planned_from(
+    alloc: Global,
+    inputs: Inputs,
+    providers: &[Box<dyn Provider + Sync>],
+) -> Result<Planned, Refused>
+    requires plannable { IsPlannable (state_of inputs.prior) }
+    ensures planned { IfOk result (λ p. IsPlan (map meaning providers.now) (config_of inputs.configuration.config) (entries_view inputs.values.entries) (state_of inputs.prior) (plan_of p)) }
+    ensures served { IfOk result (λ p. AreServed (map meaning providers.now) (map action_of p.actions.items)) }
+    ensures refused { IfErr result (Tells (AreRefused (map meaning providers.now) (config_of inputs.configuration.config) (entries_view inputs.values.entries) (state_of inputs.prior))) }
+{
+    let Inputs {
+        configuration,
+        values,
+        prior,
+    } = inputs;
+    match plan(alloc, prior, configuration, values, providers) {
+        Ok(planned) => Ok(planned),
+        Err(unplanned) => Err(unplanned.refused),
     }
 }
 

@@ -1,4 +1,4 @@
--- How a program ends that has a state to write.
+-- The end of a program that has a state to write.
 use Rattle.std.proofs.Common.{inl, inr}
 use Rattle.std.specs.Prelude.{◌≡◌, ◌⊎◌, ℕ, List, Option, Some, None}
 use Rattle.std.specs.Borrow.{MutBor}
@@ -6,7 +6,8 @@ use Rattle.std.specs.Io.KnownBytes.{Appends}
 use Rattle.tf_cli_lines.specs.Saved.{AppendsStart}
 use Rattle.tf_cli_lines.specs.Lines.{unwritten_line}
 
--- The file that was opened got a first part of the text and nothing else. (The second is what is left of an `Option<&mut W>`.)
+-- The opened file got a beginning of the text and nothing else. (The second argument is what is left of an
+-- `Option<&mut W>`.)
 abbrev pub TakesStart : {W : Type 0} → (W → Option (List ℕ)) → Option (MutBor W) → Unit {0} ⊎ ((MutBor W × Unit {0}) ⊎ ⊥) → List ℕ → Type 0
 TakesStart contents (Some file) (inr (inl left)) text = AppendsStart (contents file.now) (contents left.0.now) text
 TakesStart contents (Some file) _ text = ⊥
@@ -17,8 +18,8 @@ abbrev pub TakesWhole : {W : Type 0} → (W → Option (List ℕ)) → Option (M
 TakesWhole contents (Some file) (inr (inl left)) text = Appends (contents file.now) (contents left.0.now) text
 TakesWhole contents _ _ text = ⊥
 
--- The state is written, the status stays and nothing is told; or the status is 3, standard output got a first part of the
--- state's text, and standard error one of the line that says so.
+-- The state is written, the status stays and nothing is printed. Or the status is 3, standard output got a beginning
+-- of the state's text, and standard error a beginning of the line that reports this.
 abbrev pub EndsKept : (status result : ℕ) (text : List ℕ) (out out_after err err_after : Option (List ℕ)) → Type 0
 EndsKept status result text out out_after err err_after =
     ((result ≡ status) × (out_after ≡ out) × (err_after ≡ err))

@@ -1,4 +1,4 @@
--- What a program takes up of an apply that did not end.
+-- What a program reads of an interrupted apply.
 use Rattle.std.specs.Prelude.{◌≡◌, ℕ, List, [], map, Option, Some, None, Ok, Result}
 use Rattle.tf_provider_log.specs.LogEntry.{LogEntryView, LogView, log_entry_of}
 use Rattle.tf_provider_log.specs.Line.{lines_of}
@@ -8,14 +8,14 @@ use Rattle.tf_provider_log.specs.Replayed.{answer_count, in_flight}
 use Rattle.tf_provider_protocol.specs.Meaning.{asked}
 use Rattle.tf_cli_files.specs.declared.past.Past.{Past}
 
--- What a log tells of the apply: what it was given, how many results there are, and what was begun and has no result.
+-- What a log records of the apply: its input, how many results there are, and the calls without a result.
 pub record IsTold (log : LogView) (past : Past) (told : List LogEntryView) : Type 0 where
   pub header : past.header ≡ log.header
   pub answers : past.answers ≡ answer_count log.entries
   pub in_flight : map asked past.in_flight.items ≡ in_flight log.entries
   pub entries : told ≡ log.entries
 
--- what is read of a log: nothing where it has no whole line, and else what it tells
+-- what is read of a log: nothing if it has no whole line, otherwise what it records
 abbrev pub IsPastIn : List ℕ → Option (Past × List LogEntryView) → Type 0
 IsPastIn bytes None = log_in (lines_of bytes) ≡ Ok None
 IsPastIn bytes (Some told) = (log : LogView) × (log_in (lines_of bytes) ≡ Ok (Some log)) × IsTold log told.0 told.1

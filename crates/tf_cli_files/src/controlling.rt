@@ -1,4 +1,4 @@
-//! What the providers of an apply share.
+//! The log and the stop flag that the providers of an apply share.
 
 ghost use Rattle.std.specs.Prelude.{◌≡◌, IfOk};
 
@@ -10,7 +10,8 @@ use tf_provider_log::{Logged, OpenLog};
 use tf_provider_protocol::Provider;
 use tf_walk_action::Stop;
 
-/// What the providers of an apply share: the log of their calls, and the flag that stops the walk after so many.
+/// The shared state of the providers of an apply: the log of their calls, and the flag that stops the walk after a
+/// given number of calls.
 #[derive(Drop)]
 pub struct CallControl<F: LogFile> {
     log: Arc<OpenLog<LogSink<F>>>,
@@ -18,8 +19,8 @@ pub struct CallControl<F: LogFile> {
 }
 
 impl<F: LogFile> CallControl<F> {
-    /// Of no call yet. The log is in this file, and the flag is set before the call of this number returns; of 0 it is set from
-    /// the first, and without a number it never is.
+    /// Returns the control before any call, with its log in the given file. The call with the number `last` sets the
+    /// flag before it returns. With 0 the flag is set from the start, and without a number it is never set.
     pub fn new(
         alloc: Global,
         file: Arc<F>,
@@ -31,7 +32,7 @@ impl<F: LogFile> CallControl<F> {
         })
     }
 
-    /// A provider whose calls are counted and logged from here on. It means what it meant.
+    /// Wraps a provider so that its calls are counted and logged. Its meaning stays the same.
     pub fn wrap<P: Provider>(
         &self,
         alloc: Global,
@@ -43,12 +44,12 @@ impl<F: LogFile> CallControl<F> {
         Ok(Logged::new(alloc, Arc::try_clone(&self.log)?, stopping))
     }
 
-    /// The log.
+    /// Returns the log.
     pub fn log(&self) -> &OpenLog<LogSink<F>> {
         &self.log
     }
 
-    /// The flag.
+    /// Returns the flag.
     pub fn stop(&self) -> &Stop {
         self.countdown.stop()
     }

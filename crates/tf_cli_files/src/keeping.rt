@@ -1,4 +1,4 @@
-//! Keeping the state: its text goes to its file, and where that can't be, to standard output.
+//! Writing the state's text to its file or, if that fails, to standard output.
 
 ghost use Rattle.std.specs.Io.KnownBytes.{Appends};
 ghost use Rattle.std.specs.Prelude.{◌≡◌, OnOk};
@@ -9,13 +9,13 @@ ghost use Rattle.tf_cli_lines.specs.Lines.{unwritten_line};
 use std::io::Write;
 use tf_cli_lines::{SaveFault, save};
 
-/// The status where the state isn't written.
+/// The exit status if the state isn't written.
 pub const UNWRITTEN: u8 = 3;
 
-/// Writes the state's text to its file, and answers 0; or 3 where the file couldn't be opened, which is `None`, where a write
-/// to it failed or took nothing, or where its `flush` failed, by which a file is put in its place. Then standard error is told that
-/// the state isn't written, and standard output gets its text, so that it isn't lost; no answer tells of a write to these that
-/// fails.
+/// Writes the state's text to its file and returns 0. Returns 3 if the file couldn't be opened, which is `None`; if a
+/// write to it fails or takes nothing; or if its `flush` fails, which puts the file in its place. Then it prints on
+/// standard error that the state isn't written, and the state's text on standard output, so that it isn't lost.
+/// Errors of these two writes are ignored.
 pub fn keep<W: Write, O: Write, E: Write>(
     file: Option<&mut W>,
     text: &str,
@@ -44,7 +44,7 @@ fn keep_in<W: Write, O: Write, E: Write>(file: &mut W, text: &str, out: &mut O, 
     }
 }
 
-/// Writes a text, and has its writer put it in its place.
+/// Writes a text, and flushes the writer, which puts the text in its place.
 fn put<W: Write>(writer: &mut W, text: &str) -> Result<(), SaveFault>
     ensures whole { OnOk result (Appends (W.contents writer.old) (W.contents writer.new) text.now) }
     ensures part { AppendsStart (W.contents writer.old) (W.contents writer.new) text.now }
@@ -54,7 +54,7 @@ fn put<W: Write>(writer: &mut W, text: &str) -> Result<(), SaveFault>
     Ok(())
 }
 
-/// Tells that the state isn't written, and shows its text. The answer is the status.
+/// Prints that the state isn't written, prints its text, and returns the status.
 fn tell_unwritten<O: Write, E: Write>(text: &str, out: &mut O, err: &mut E) -> u8
     ensures status { result ≡ 3 }
     ensures output { AppendsStart (O.contents out.old) (O.contents out.new) text.now }

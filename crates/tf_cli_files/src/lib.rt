@@ -1,5 +1,5 @@
-//! What the programs `plan` and `apply` have around the engine: their words, the files that they read, the lock and the log, how
-//! the state stands on the disk, and the stop after so many calls.
+//! The file handling of the programs `plan` and `apply`: their options, the files that they read, the lock and the
+//! log, how the state is replaced on the disk, and the stop after a given number of calls.
 #![tactic(auto)]
 
 mod controlling;

@@ -1,4 +1,4 @@
-//! The file of a log: what an apply is locked by, and what its log's lines are added to.
+//! The file of a log. An apply locks it, and appends the log's lines to it.
 
 use std::fs::{File, OpenFile, OpenOptions, Permissions, TryLockError};
 use std::io::{ErrorKind, Write};
@@ -8,15 +8,16 @@ use std::sync::Arc;
 use std::{fs, io};
 use tf_provider_log::{NotAdded, Sink};
 
-/// Who may read and write a log, and a new state: their owner alone, since configurations and states hold secrets.
+/// The permissions of a log and of a new state: only their owner may read and write them, because configurations and
+/// states contain secrets.
 pub const OWNER_ALONE: u32 = 0o600;
 
-/// What a file has to do that it can be a log's.
+/// The operations of a file that a log needs.
 pub trait LogFile: OpenFile + Drop {
-    /// Locks the file until it is closed, however that comes; false where somebody else holds the lock.
+    /// Locks the file until it is closed, in whatever way. Returns false if somebody else holds the lock.
     fn try_lock(&self) -> io::Result<bool>;
 
-    /// Writes at the file's end, by one call, and answers how many bytes were taken.
+    /// Writes at the file's end, by one call, and returns how many bytes were taken.
     fn append(&self, bytes: &[u8]) -> io::Result<usize>;
 }
 
@@ -35,14 +36,15 @@ impl LogFile for File {
     }
 }
 
-/// A log's lines go to its file. Each is written by one call at the file's end, and is on the disk before the next step.
+/// A sink that appends a log's lines to its file. Each line is written by one call at the file's end, and is on the
+/// disk before the next step.
 #[derive(Drop)]
 pub struct LogSink<F: LogFile> {
     file: Arc<F>,
 }
 
 impl<F: LogFile> LogSink<F> {
-    /// What adds to the log in this file.
+    /// Returns a sink that appends to the log in this file.
     pub fn new(file: Arc<F>) -> LogSink<F> {
         LogSink { file }
     }
@@ -60,14 +62,14 @@ impl<F: LogFile> Sink for LogSink<F> {
     }
 }
 
-/// Takes all lines of a log away.
+/// Removes all lines of a log.
 pub fn empty<F: LogFile>(file: &F) -> io::Result<()> {
     file.set_len(0)?;
     file.sync_all()
 }
 
-/// Opens the file of a log, which is made where it isn't there, and locks it. `None` where somebody else holds the lock. Nobody
-/// but its owner can read the file; a link isn't followed.
+/// Opens the file of a log, creates it if it doesn't exist, and locks it. Returns `None` if somebody else holds the
+/// lock. Only its owner can read and write the file. Fails if the name is a link.
 pub fn open_log<R: Files>(rt: &R, name: &str) -> io::Result<Option<R::File>>
 where
     R::File: LogFile,

@@ -1,4 +1,4 @@
-//! What the log of an apply that did not end tells.
+//! The contents of the log of an interrupted apply.
 
 ghost use Rattle.std.specs.Prelude.{◌≡◌, IfErr, IfOk, map, option_map};
 ghost use Rattle.tf_provider_log.specs.LogEntry.{log_entry_of, log_of};
@@ -12,19 +12,19 @@ use std::process::ExitCode;
 use tf_provider_log::{Header, Log, LogEntry, LogFault, answer_count, in_flight, read_log};
 use tf_provider_protocol::Request;
 
-/// An apply that did not end, as its log tells it.
+/// An interrupted apply, as its log records it.
 #[derive(Drop)]
 pub struct Past {
-    /// What it was given.
+    /// The input of the apply.
     pub header: Header,
     /// How many results its log has.
     pub answers: usize,
-    /// What was begun, and what came of it isn't known.
+    /// The calls without a recorded result.
     pub in_flight: Vec<Request>,
 }
 
-/// Reads a log of this name. Where it can't be read that has been told, and this is the program's status. None where it has no
-/// whole first line: then no call was made.
+/// Reads a log of this name. Returns `None` if it has no whole first line, in which case no call was made. If the log
+/// can't be read, prints that and returns the program's exit status.
 pub fn read_past<E: Write>(
     alloc: Global,
     name: &str,

@@ -1,33 +1,33 @@
-//! Where a state stands: the file that its name leads to, and the names of what stands beside it.
+//! The files of a state: the file that its name leads to, and the files next to it.
 
 use std::path::Path;
 use std::rt::Files;
 use std::{fs, io};
 
-/// How many links are followed from a state's name, as Linux does.
+/// The least number of links in a row that is refused, after Linux's limit of 40.
 const MOST_LINKS: usize = 40;
 
-/// The names of the files of a state: where its own name is a link, those of the file that this leads to.
+/// The names of the files of a state. If its own name is a link, those of the file that the link leads to.
 #[derive(Drop)]
 pub struct Place {
     /// The file of the state.
     pub state: String,
-    /// The new file that takes its place.
+    /// The new file that replaces it.
     pub new: String,
-    /// The state that stood there before.
+    /// The previous state.
     pub backup: String,
-    /// The new file that takes the place of that.
+    /// The new file that replaces the backup.
     pub new_backup: String,
     /// The log of an apply.
     pub log: String,
 }
 
 impl Place {
-    /// The names of the files of the state of this name.
+    /// Returns the names of the files of the state with this name.
     ///
     /// # Errors
     ///
-    /// Where more than 40 links follow one another, or memory runs out.
+    /// Fails if 40 or more links follow one another, if a link's target isn't UTF-8, or if memory runs out.
     pub fn of<R: Files + AllocGlobal>(rt: &R, file: &str) -> io::Result<Place> {
         let alloc = rt.alloc();
         let state = end_of_links(rt, file)?;
@@ -40,7 +40,7 @@ impl Place {
         })
     }
 
-    /// The folder that these files stand in.
+    /// Returns the folder of these files.
     pub fn folder(&self) -> &str {
         match Path::new(self.state.as_str()).parent() {
             Some(folder) => match folder.to_str() {
@@ -52,7 +52,7 @@ impl Place {
     }
 }
 
-/// The name that links lead to from this one, which is itself where it isn't a link.
+/// Returns the name that links lead to from this one, or the name itself if it isn't a link.
 fn end_of_links<R: Files + AllocGlobal>(rt: &R, file: &str) -> io::Result<String> {
     let mut name = String::from_str(rt.alloc(), file)?;
     for _ in 0..MOST_LINKS {
@@ -64,7 +64,7 @@ fn end_of_links<R: Files + AllocGlobal>(rt: &R, file: &str) -> io::Result<String
     Err(io::Error::from(io::ErrorKind::Other))
 }
 
-/// The name that a link leads to, from the folder that the link stands in; none where this is no link.
+/// Returns the name that a link leads to, relative to the link's folder; `None` if the name is no link.
 fn next_link<R: Files + AllocGlobal>(rt: &R, name: &str) -> io::Result<Option<String>> {
     let Ok(target) = fs::read_link(rt, name) else {
         return Ok(None);

@@ -1,4 +1,4 @@
-//! What both programs do around their work: they read their words, and tell that there is no memory.
+//! The common part of both programs: reading the options, and reporting out of memory.
 
 ghost use Rattle.std.specs.IoError.{error_kind};
 ghost use Rattle.std.specs.Prelude.{◌≡◌, ◌⊎◌};
@@ -12,12 +12,12 @@ use tf_cli_lines::print_refusal;
 use tf_cli_options::{Options, Program, asked_of};
 use tf_config_refusal::Refusal;
 
-/// Runs a program: reads its words, by the options that it has, and does its work with what they say. Where the words are refused or help is asked for, that
-/// is told in place of the work, and so is want of memory, whatever had none of it.
+/// Runs a program: reads its options and does its work with them. If the options are refused or ask for help, prints
+/// that instead of doing the work. If memory runs out anywhere, reports that.
 ///
 /// # Errors
 ///
-/// That a word isn't UTF-8, and those of the work.
+/// Fails if a word isn't UTF-8, and with the errors of the work.
 pub fn run<
     R: Env + AllocGlobal,
     O: Write,
@@ -37,7 +37,7 @@ pub fn run<
     }
 }
 
-/// How a program ends. Want of memory is told as the refusal that it is.
+/// Ends a program. Prints out of memory as a refusal.
 fn end<E: Write>(answer: io::Result<ExitCode>, err: &mut E) -> io::Result<ExitCode>
     ensures status { Ends (λ e. error_kind e ≡ ErrorKind.OutOfMemory) answer result }
     ensures told { TellsEnd (λ e. error_kind e ≡ ErrorKind.OutOfMemory) answer (E.contents err.old) (E.contents err.new) }

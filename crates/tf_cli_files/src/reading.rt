@@ -1,4 +1,4 @@
-//! Reading the files that a program's words name.
+//! Reading of the files that a program's options name.
 
 ghost use Rattle.std.specs.Fn.{FnReturnsAt};
 ghost use Rattle.std.specs.IoError.{error_kind};
@@ -13,8 +13,8 @@ use std::process::ExitCode;
 use tf_cli_lines::save_all;
 use tf_cli_options::Options;
 
-/// Reads the files that options name, the configuration and then the variables; the state is none yet. Where one can't be read
-/// that has been told, no other one is read, and this is the program's status.
+/// Reads the files that the options name, the configuration and then the variables. The state is `None` for now. If a
+/// file can't be read, prints that, reads no other one, and returns the program's exit status.
 pub fn read_files<F: Fn(&str) -> io::Result<Vec<u8>>, E: Write>(
     options: Options,
     read: &F,
@@ -36,7 +36,7 @@ pub fn read_files<F: Fn(&str) -> io::Result<Vec<u8>>, E: Write>(
     })
 }
 
-/// Reads a file. Where it can't be read, that has been told.
+/// Reads a file. If it can't be read, prints that.
 fn read_file<F: Fn(&str) -> io::Result<Vec<u8>>, E: Write>(
     file: &str,
     read: &F,
@@ -49,7 +49,7 @@ fn read_file<F: Fn(&str) -> io::Result<Vec<u8>>, E: Write>(
     or_told(read(file), file, err)
 }
 
-/// Reads the variables file, where one is named. Where it can't be read, that has been told.
+/// Reads the variables file, if one is named. If it can't be read, prints that.
 fn read_vars_file<F: Fn(&str) -> io::Result<Vec<u8>>, E: Write>(
     file: &Option<String>,
     read: &F,
@@ -65,8 +65,8 @@ fn read_vars_file<F: Fn(&str) -> io::Result<Vec<u8>>, E: Write>(
     }
 }
 
-/// Reads a file that need not be there, as a state's. Where it is there and can't be read, that has been told, and this is the
-/// program's status.
+/// Reads a file that may be absent, such as a state's. If it exists and can't be read, prints that and returns the
+/// program's exit status.
 pub fn read_optional<F: Fn(&str) -> io::Result<Vec<u8>>, E: Write>(
     file: &str,
     read: &F,
@@ -83,7 +83,7 @@ pub fn read_optional<F: Fn(&str) -> io::Result<Vec<u8>>, E: Write>(
     }
 }
 
-/// What was read of a file. Where it can't be read that is told, and this is the program's status.
+/// Returns what was read of a file. If it can't be read, prints that and returns the program's exit status.
 fn or_told<T: Drop, E: Write>(read: io::Result<T>, file: &str, err: &mut E) -> Result<T, ExitCode>
     ensures read { GoesOn read result }
     ensures told { TellsUnread read file.now (E.contents err.old) (E.contents err.new) }
@@ -94,7 +94,7 @@ fn or_told<T: Drop, E: Write>(read: io::Result<T>, file: &str, err: &mut E) -> R
     }
 }
 
-/// Tells that a file can't be read. The answer is the program's status.
+/// Prints that a file can't be read, and returns the program's exit status.
 pub fn tell_unread<E: Write>(file: &str, err: &mut E) -> ExitCode
     ensures status { IsFailure result }
     ensures told { AppendsStart (E.contents err.old) (E.contents err.new) (unread_line file.now) }

@@ -1,4 +1,4 @@
-//! Putting the state's text in the place of its file.
+//! Replacing the state file.
 
 ghost use Rattle.tf_cli_files.specs.Kept.{EndsKept};
 
@@ -11,11 +11,11 @@ use std::os::unix::fs::{MetadataExt, OpenOptionsExt, PermissionsExt, lchown};
 use std::rt::Files;
 use std::{fs, io};
 
-/// The bits of a file's mode that say who may do what with it.
+/// The bits of a file's mode that are its permissions.
 const PERMISSIONS: u32 = 0o7777;
 
-/// A new file that is to take the place of a state's. A flush has all that was written on the disk, keeps the state that is there
-/// beside it, and renames the new file then, so nothing is to be written after one.
+/// A new file that is to replace a state's. A flush syncs all that was written to the disk, keeps the existing state
+/// as the backup next to it, and then renames the new file. So nothing may be written after a flush.
 #[derive(Drop)]
 struct Replacement<'a, R: Files> {
     rt: &'a R,
@@ -24,8 +24,7 @@ struct Replacement<'a, R: Files> {
 }
 
 impl<'a, R: Files> Replacement<'a, R> {
-    /// Makes the new file, which nobody else has and no link leads from. What stands at its name was left by a program that was
-    /// killed.
+    /// Creates the new file, which is no link. Removes an earlier file of its name, which a killed program left.
     fn create(rt: &'a R, place: &'a Place) -> io::Result<Replacement<'a, R>> {
         let _ = fs::remove_file(rt, place.new.as_str());
         let mut options = OpenOptions::new();
@@ -51,7 +50,7 @@ impl<R: Files> Write for Replacement<'_, R> {
     }
 }
 
-/// Gives a new file the mode of the state that is there, and its owner and group where the system lets us.
+/// Gives a new file the mode of the existing state and, if the system allows it, its owner and group.
 fn keep_permissions<R: Files>(rt: &R, place: &Place, written: &R::File) -> io::Result<()> {
     match fs::metadata(rt, place.state.as_str()) {
         Ok(old) => {
@@ -71,12 +70,12 @@ fn keep_owner<R: Files>(rt: &R, new: &str, old: &Metadata, now: &Metadata) {
     }
 }
 
-/// Has the names of a state's files on the disk.
+/// Syncs the names of a state's files to the disk.
 pub fn sync_folder<R: Files>(rt: &R, place: &Place) -> io::Result<()> {
     fs::open(rt, place.folder())?.sync_all()
 }
 
-/// Keeps the state that is there, if there is one, at the backup's name.
+/// Keeps the existing state, if there is one, under the backup's name.
 fn keep_backup<R: Files>(rt: &R, place: &Place) -> io::Result<()> {
     let (state, new) = (place.state.as_str(), place.new_backup.as_str());
     let _ = fs::remove_file(rt, new);
@@ -92,10 +91,11 @@ fn keep_backup<R: Files>(rt: &R, place: &Place) -> io::Result<()> {
     renamed
 }
 
-/// Puts a file with the state's text in the place of its file, by a new one beside it that is renamed once all of it is on the
-/// disk; the one that is there stays as the backup. The status is the one so far, or 3 where any of that fails: then the file stays as
-/// it was, the new one is removed, standard error is told that the state isn't written, and standard output gets its text. (Where
-/// the sync of the folder alone fails, the file is the new one, and all else is so.)
+/// Replaces the state file by one with this text: writes a new file next to it, and renames it when all of it is on
+/// the disk. The old file stays as the backup. Returns the status so far, or 3 if any of that fails. Then the state
+/// file stays as it was, the new file is removed, standard error reports that the state isn't written, and standard
+/// output gets its text. (If only the sync of the folder fails, the state file is the new one, and the rest is the
+/// same.)
 pub fn keep_state<R: Files, O: Write, E: Write>(
     rt: &R,
     place: &Place,
@@ -114,7 +114,7 @@ pub fn keep_state<R: Files, O: Write, E: Write>(
     kept
 }
 
-/// Puts the text in the file's place.
+/// Replaces the state file by one with this text.
 fn keep_by<R: Files, O: Write, E: Write>(
     rt: &R,
     place: &Place,

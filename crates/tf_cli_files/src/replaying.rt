@@ -1,4 +1,4 @@
-//! The providers that answer from a log.
+//! Providers that answer from a log.
 
 ghost use Rattle.std.specs.Prelude.{◌≡◌, ◌≤◌, ◌∷◌, [], length, map};
 ghost use Rattle.tf_provider_log.specs.LogEntry.{log_entry_of};
@@ -8,7 +8,8 @@ use std::alloc::Global;
 use tf_provider_log::{LogEntry, Replayed};
 use tf_provider_protocol::Provider;
 
-/// Two providers that answer each from its own entries of a log, which are the first two lists, in the order of the providers.
+/// Returns two providers that each answer from their own entries of a log. These are the first two lists, in the
+/// order of the providers.
 pub fn both_replayed<P: Provider, Q: Provider>(
     alloc: Global,
     own: Vec<Vec<LogEntry>>,

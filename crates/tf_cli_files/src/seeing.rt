@@ -1,4 +1,4 @@
-//! What a program finds: the files that its words name, and the log of an apply that did not end.
+//! Reading a program's files, and the log of an interrupted apply.
 
 ghost use Rattle.std.specs.Prelude.{IfErr};
 ghost use Rattle.tf_cli_files.specs.Program.{IsFailure};
@@ -17,18 +17,19 @@ use std::{fs, io};
 use tf_cli_options::Options;
 use tf_provider_log::LogEntry;
 
-/// What a program was given, where its state stands, and an apply of this state that did not end.
+/// A program's input, the files of its state, and an interrupted apply of this state.
 #[derive(Drop)]
 pub struct Seen {
-    /// What it was given.
+    /// The program's input.
     pub given: ProgramInput,
-    /// Where its state stands.
+    /// The files of its state.
     pub place: Place,
-    /// The apply that did not end, if there is one, and the entries of its log.
+    /// The interrupted apply, if there is one, and the entries of its log.
     pub past: Option<(Past, Vec<LogEntry>)>,
 }
 
-/// Reads the files that options name, and the log. Where one can't be read that has been told, and this is the program's status.
+/// Reads the files that the options name, and the log. If one can't be read, prints that and returns the program's
+/// exit status.
 pub fn see<R: Files + AllocGlobal, E: Write>(
     rt: &R,
     options: Options,
@@ -41,8 +42,8 @@ pub fn see<R: Files + AllocGlobal, E: Write>(
     see_state(rt, given, place, err)
 }
 
-/// Does the same, and before the state is read it locks it: nobody else who locks it so holds it until the log is closed. Where
-/// somebody else does, that is told.
+/// Like [`see`], but takes the state's lock before reading the state. The lock is held until the log is closed. If
+/// somebody else holds it, prints that and returns the program's exit status.
 pub fn hold<R: Files + AllocGlobal, E: Write>(
     rt: &R,
     options: Options,
@@ -62,7 +63,8 @@ where
     Ok((seen, log))
 }
 
-/// Where the state that options name stands. Where its name leads nowhere, that is told as of a file that can't be read.
+/// Returns the files of the state that the options name. If its name leads nowhere, prints that the file can't be
+/// read.
 fn place_of<R: Files + AllocGlobal, E: Write>(
     rt: &R,
     given: &ProgramInput,
@@ -76,7 +78,7 @@ fn place_of<R: Files + AllocGlobal, E: Write>(
     }
 }
 
-/// Opens the log and locks it. Where that can't be, it is told.
+/// Opens the log and locks it. If that fails, prints that.
 fn lock<R: Files, E: Write>(
     rt: &R,
     given: &ProgramInput,
@@ -94,7 +96,7 @@ where
     }
 }
 
-/// Takes away what a log has that has no whole line, if it has anything.
+/// Empties a log that has no whole line.
 fn take_torn_away<F: LogFile>(log: &F) -> io::Result<()> {
     if log.metadata()?.len() == 0 {
         return Ok(());
@@ -102,7 +104,7 @@ fn take_torn_away<F: LogFile>(log: &F) -> io::Result<()> {
     empty(log)
 }
 
-/// Reads the state, where there is one, and the log.
+/// Reads the state, if there is one, and the log.
 fn see_state<R: Files + AllocGlobal, E: Write>(
     rt: &R,
     mut given: ProgramInput,

@@ -7,10 +7,10 @@ use std::sync::atomic::{AtomicUsize, Ordering};
 use tf_provider_protocol::{Provider, Reply, Request, Schema};
 use tf_walk_action::Stop;
 
-/// After how many calls the walk is to stop, and the flag that says so; several providers share one.
+/// The number of calls after which the walk stops, and the stop flag. Several providers share one.
 #[derive(Drop)]
 pub struct Countdown {
-    /// The number of the call before whose return the walk is stopped; the first is 1. With no number it never is.
+    /// The number of the call that sets the flag before it returns; the first is 1. `None` never sets it.
     last: Option<usize>,
     /// How many calls were made.
     calls: AtomicUsize,
@@ -18,7 +18,8 @@ pub struct Countdown {
 }
 
 impl Countdown {
-    /// Of no call yet, with the number of the call at which the flag is set; it is set from the first where that is 0.
+    /// Returns a countdown before any call, with the number of the call that sets the flag. With 0 the flag is set
+    /// from the start.
     pub fn new(last: Option<usize>) -> Countdown {
         let stop = Stop::new();
         if last == Some(0) {
@@ -31,17 +32,17 @@ impl Countdown {
         }
     }
 
-    /// The flag.
+    /// Returns the flag.
     pub fn stop(&self) -> &Stop {
         &self.stop
     }
 
-    /// Counts a call, and answers how many were made before it.
+    /// Counts a call, and returns how many were made before it.
     fn begin(&self) -> usize {
         self.calls.fetch_add(1, Ordering::SeqCst)
     }
 
-    /// Sets the flag where this is the last call.
+    /// Sets the flag if this is the last call.
     fn end(&self, before: usize) {
         if let Some(last) = self.last
             && last.checked_sub(1) == Some(before)
@@ -59,7 +60,7 @@ pub struct Stopping<P: Provider> {
 }
 
 impl<P: Provider> Stopping<P> {
-    /// A provider whose calls are counted from here on.
+    /// Wraps a provider so that its calls are counted.
     pub fn new(provider: P, countdown: Arc<Countdown>) -> Stopping<P>
         ensures { ⟦<Stopping<P> as Provider>⟧.meaning result ≡ P.meaning provider }
     {

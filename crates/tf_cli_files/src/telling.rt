@@ -1,4 +1,4 @@
-//! What the programs tell on standard error of logs and locks.
+//! Messages on standard error about logs and locks.
 
 ghost use Rattle.std.specs.Prelude.{◌≡◌, ◌∷◌, ◌++◌, codes, string_bytes};
 ghost use Rattle.tf_cli_lines.specs.Saved.{AppendsStart};
@@ -14,7 +14,7 @@ use tf_config_refusal::Refusal;
 use tf_provider_log::{LineFault, request_line};
 use tf_provider_protocol::Request;
 
-/// Tells that there was no memory. The answer is the program's status.
+/// Prints that memory ran out, and returns the program's exit status.
 pub fn tell_no_memory<E: Write>(err: &mut E) -> ExitCode
     ensures { IsFailure result }
 {
@@ -22,7 +22,7 @@ pub fn tell_no_memory<E: Write>(err: &mut E) -> ExitCode
     ExitCode::FAILURE
 }
 
-/// Tells that another apply holds the lock of a state. The answer is the program's status.
+/// Prints that another apply holds the lock of a state, and returns the program's exit status.
 pub fn tell_locked<E: Write>(file: &str, err: &mut E) -> ExitCode
     ensures { IsFailure result }
 {
@@ -30,7 +30,7 @@ pub fn tell_locked<E: Write>(file: &str, err: &mut E) -> ExitCode
     ExitCode::FAILURE
 }
 
-/// Tells that a log can't be written, so that nothing is called. The answer is the program's status.
+/// Prints that a log can't be written, so that no provider is called. Returns the program's exit status.
 pub fn tell_no_log<E: Write>(name: &str, err: &mut E) -> ExitCode
     ensures { IsFailure result }
 {
@@ -38,7 +38,7 @@ pub fn tell_no_log<E: Write>(name: &str, err: &mut E) -> ExitCode
     ExitCode::FAILURE
 }
 
-/// Tells that a line of a log isn't one. The answer is the program's status.
+/// Prints that a line of a log is malformed, and returns the program's exit status.
 pub fn tell_bad_line<E: Write>(name: &str, number: usize, fault: LineFault, err: &mut E) -> ExitCode
     ensures { IsFailure result }
 {
@@ -46,7 +46,7 @@ pub fn tell_bad_line<E: Write>(name: &str, number: usize, fault: LineFault, err:
     ExitCode::FAILURE
 }
 
-/// Tells that a log isn't of the state that is there. The answer is the program's status.
+/// Prints that a log doesn't belong to the existing state, and returns the program's exit status.
 pub fn tell_misfit<E: Write>(place: &Place, err: &mut E) -> ExitCode
     ensures { IsFailure result }
 {
@@ -63,7 +63,8 @@ pub fn tell_misfit<E: Write>(place: &Place, err: &mut E) -> ExitCode
     ExitCode::FAILURE
 }
 
-/// Tells that not all results of a log could be recovered, so that nothing was written. The answer is the program's status.
+/// Prints that not all results of a log could be recovered, so that nothing was written. Returns the program's exit
+/// status.
 pub fn tell_unrecovered<E: Write>(name: &str, err: &mut E) -> ExitCode
     ensures { IsFailure result }
 {
@@ -74,7 +75,7 @@ pub fn tell_unrecovered<E: Write>(name: &str, err: &mut E) -> ExitCode
     ExitCode::FAILURE
 }
 
-/// Tells that a log's lines couldn't be written any more, so that no further call was begun.
+/// Prints that a log could not be written any more, so that no further call was begun.
 pub fn tell_lost<E: Write>(name: &str, err: &mut E) {
     let _ = save_all(
         err,
@@ -86,8 +87,8 @@ pub fn tell_lost<E: Write>(name: &str, err: &mut E) {
     );
 }
 
-/// Tells what is recovered of an apply that did not end: how many results, and each request that was begun and whose result
-/// isn't known, with the request itself.
+/// Prints what is recovered of an interrupted apply: how many results, and each request that was begun and has no
+/// recorded result.
 pub fn tell_past<E: Write>(alloc: Global, past: &Past, err: &mut E) {
     let _ = writeln!(
         err,

@@ -22,18 +22,18 @@ empty_plannable : (lineage : List ℕ) → IsPlannable (empty_state lineage)
 empty_plannable lineage = (omega arith, omega arith)
 
 -- a plan can start from a prior state
-plannable : (state : Option (List ℕ)) (lineage : List ℕ) (prior : StateView) → IsPrior state lineage prior → IsPlannable prior
+pub plannable : (state : Option (List ℕ)) (lineage : List ℕ) (prior : StateView) → IsPrior state lineage prior → IsPlannable prior
 plannable None lineage prior is = subst IsPlannable (sym is) (empty_plannable lineage)
 plannable (Some bytes) lineage prior is = is.1
 
-pub few : (state : Option (List ℕ)) (lineage : List ℕ) (config : ConfigView) (prior : StateView) → IsWithinCounts config → IsPrior state lineage prior → length (names_of config) + length prior.resources ≤ 8000
-few state lineage config prior h is =
+pub few_names : (config : ConfigView) (prior : StateView) → IsWithinCounts config → IsPlannable prior → length (names_of config) + length prior.resources ≤ 8000
+few_names config prior h can =
     let locals : length (names_in config.locals) ≤ 2000 = h.1 in
     let blocks : length config.blocks ≤ 2000 = h.3 in
-    let resources : length prior.resources ≤ 4000 = (plannable state lineage prior is).0 in
+    let resources : length prior.resources ≤ 4000 = can.0 in
     omega (arith, length-append (local_names config.locals) (map block_name config.blocks), local_names-length config.locals, mapped-length block_name config.blocks, locals, blocks, resources)
 
-pub has_next : (state : Option (List ℕ)) (lineage : List ℕ) (prior : StateView) → IsPrior state lineage prior → prior.serial + 1 < 2 ^ 32
-has_next state lineage prior is =
-    let below : prior.serial < 4294967295 = (plannable state lineage prior is).1 in
+pub has_next : (prior : StateView) → IsPlannable prior → prior.serial + 1 < 2 ^ 32
+has_next prior can =
+    let below : prior.serial < 4294967295 = can.1 in
     omega (arith, below)

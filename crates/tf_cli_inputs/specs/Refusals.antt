@@ -1,4 +1,4 @@
--- What is refused of the texts that a user gives.
+-- The refusals of the texts that a user gives.
 use Rattle.std.specs.Prelude.{◌≡◌, ◌⊎◌, ℕ, codes, List, Option, Some, None}
 use Rattle.tf_config_json.specs.Reading.{IsRefused}
 use Rattle.tf_config_data.specs.Config.{ConfigView}
@@ -19,6 +19,10 @@ pub record AreNamesRefused (texts : Texts) (refusal : RefusalView) : Type 0 wher
   pub read : IsRead texts.config config
   pub refused : RefusesItsNames config refusal
 
+-- The text is refused as a configuration, or its names are.
+abbrev pub IsConfigurationRefused : List ℕ → RefusalView → Type 0
+IsConfigurationRefused text refusal = IsRefused text refusal ⊎ ((config : ConfigView) × IsRead text config × RefusesItsNames config refusal)
+
 -- The text is a configuration with good names, and the variables file or a variable is refused.
 pub record AreValuesRefused (texts : Texts) (refusal : RefusalView) : Type 0 where
   pub config : ConfigView
@@ -26,23 +30,23 @@ pub record AreValuesRefused (texts : Texts) (refusal : RefusalView) : Type 0 whe
   pub names : AreNamesGood config
   pub refused : variables.IsRefused texts.vars config.variables refusal
 
--- a refusal that stands at the state
+-- a refusal placed at `state`
 abbrev pub at_state : Code → RefusalView
 at_state code = fault code (codes "state") bare
 
--- How a fault of the state's text is refused: 13 where it is no state's, 14 where the state is beyond a limit.
+-- The refusal of a fault of the state's text: 13 if it is no state's, 14 if the state is beyond a limit.
 abbrev pub fault_told : StateFault → RefusalView
 fault_told BadState = at_state code.BadState
 fault_told Limit = at_state code.Limit
 fault_told OutOfMemory = no_memory
 
--- the state's text has a fault, which is refused so
+-- the state's text has a fault with this refusal
 pub record HasFault (bytes : List ℕ) (refusal : RefusalView) : Type 0 where
   pub why : StateFault
   pub unread : IsUnread bytes why
   pub refused : refusal ≡ fault_told why
 
--- Where no state is given, there is nothing to refuse but want of memory.
+-- If no state is given, the only refusal is out of memory.
 abbrev pub IsToldOfState : Option (List ℕ) → RefusalView → Type 0
 IsToldOfState None refusal = refusal ≡ no_memory
 IsToldOfState (Some bytes) refusal = HasFault bytes refusal
@@ -56,8 +60,8 @@ pub record IsStateRefused (texts : Texts) (refusal : RefusalView) : Type 0 where
   pub valued : AreTheValues texts.vars config values
   pub refused : IsToldOfState texts.state refusal
 
--- What is told of texts that can't be read, in the order of tests: of the configuration's text; of its names; of the
--- variables; of the state. That there was no memory may be told of any texts.
+-- The refusals of texts that can't be read, in the order of tests: of the configuration's text, of its names, of the
+-- variables, of the state. Any texts may be refused because memory ran out.
 abbrev pub IsToldOf : Texts → RefusalView → Type 0
 IsToldOf texts refusal =
     IsRefused texts.config refusal ⊎ (AreNamesRefused texts refusal ⊎ (AreValuesRefused texts refusal ⊎ IsStateRefused texts refusal))

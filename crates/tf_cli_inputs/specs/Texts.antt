@@ -1,4 +1,4 @@
--- What the texts that a user gives stand for.
+-- The content of the texts that a user gives.
 use Rattle.std.specs.Prelude.{◌≡◌, ◌≤◌, ℕ, List, length, Option, Some, None}
 use Rattle.serde_json.specs.Data.{Data}
 use Rattle.tf_config_json.specs.Configuration.{IsConfiguration}
@@ -15,7 +15,7 @@ use Rattle.tf_value_data.specs.Tree.{Entries}
 use Rattle.tf_config_json.specs.VariablesRead.{IsFileOf}
 use Rattle.tf_config_json.specs.Values.{AreValues, file_checks}
 
--- the texts that a user gives: a configuration, and a variables file and a prior state, where there are such
+-- the texts that a user gives: a configuration, and optionally a variables file and a prior state
 pub record Texts : Type 0 where
   pub config : List ℕ
   pub vars : Option (List ℕ)
@@ -24,7 +24,7 @@ pub record Texts : Type 0 where
 abbrev pub the_texts : List ℕ → Option (List ℕ) → Option (List ℕ) → Texts
 the_texts config vars state = record { config = config; vars = vars; state = state }
 
--- The text is a configuration, and passes no limit.
+-- The text is a configuration within the limits.
 pub record IsRead (bytes : List ℕ) (config : ConfigView) : Type 0 where
   pub tree : Data
   pub is_tree : IsTree bytes tree
@@ -32,26 +32,26 @@ pub record IsRead (bytes : List ℕ) (config : ConfigView) : Type 0 where
   pub size : length bytes ≤ max_bytes
   pub counts : IsWithinCounts config
 
--- Each name in a configuration is known where it stands, and no name needs itself.
+-- Each name in a configuration is known at its place, and no name needs itself.
 pub record AreNamesGood (config : ConfigView) : Type 0 where
   pub known : AllAreKnown config
   pub acyclic : (pair : Pair) → Needs (names_of config) pair pair → ⊥
 
--- Each variable has the value that the variables file gives it, where there is one that does, else its default.
+-- Each variable has the value in the variables file, or its default if the file gives it no value.
 pub record AreTheValues (vars : Option (List ℕ)) (config : ConfigView) (values : Entries) : Type 0 where
   pub file : Option Data
   pub is_file : IsFileOf vars file
   pub literal : AreMet (file_checks file config.variables)
   pub valued : AreValues file config.variables values
 
--- The state that a plan starts from: the one whose text is given, from which can be planned; or, where none is given, the
--- one of a lineage in which nothing exists.
+-- The prior state: the given one, which must be one that can be planned from; or the empty one of a lineage, if none
+-- is given.
 abbrev pub IsPrior : Option (List ℕ) → List ℕ → StateView → Type 0
 IsPrior None lineage prior = prior ≡ empty_state lineage
 IsPrior (Some bytes) lineage prior = Reads bytes prior × IsPlannable prior
 
--- Texts read as a configuration, whose variables have these values, and as a prior state, which is of a lineage where
--- none is given.
+-- Texts read as a configuration with the values of its variables, and as a prior state. Without a state's text, the
+-- prior state is the empty one of the lineage.
 pub record ReadAs (texts : Texts) (lineage : List ℕ) (config : ConfigView) (values : Entries) (prior : StateView) : Type 0 where
   pub read : IsRead texts.config config
   pub names : AreNamesGood config

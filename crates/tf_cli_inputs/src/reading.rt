@@ -1,50 +1,42 @@
-//! From the texts that the user gives to what they stand for.
+//! Reading of the texts that a user gives.
 
-ghost use Rattle.std.specs.Prelude.{◌≡◌, ◌≤◌, ◌<◌, ◌+◌, ◌^◌, length, option_map, IfOk, IfErr, OnOk};
-ghost use Rattle.tf_config_json.specs.Reading.{IsRefused, IsWithinCounts};
-ghost use Rattle.tf_config_data.specs.Words.{config_of, names_of};
-ghost use Rattle.tf_config_names.specs.Judging.{RefusesItsNames};
-ghost use Rattle.tf_config_names.specs.Needs.{IsAcyclic, IsDependence};
+ghost use Rattle.std.specs.Prelude.{◌≡◌, option_map, IfOk, IfErr};
+ghost use Rattle.tf_config_data.specs.Words.{config_of};
 ghost use Rattle.tf_config_refusal.specs.Refusal.{refusal_of};
+ghost use Rattle.tf_state.specs.Table.{IsPlannable};
 ghost use Rattle.tf_state.specs.Valid.{IsValid};
 ghost use Rattle.tf_state_data.specs.State.{state_of};
 ghost use Rattle.tf_value_data.specs.Tree.{entries_view};
 ghost use Rattle.tf_cli_inputs.specs.Refusals.{IsToldOf, IsToldOfState, at_state, fault_told};
-ghost use Rattle.tf_cli_inputs.specs.Texts.{AreNamesGood, IsPrior, IsRead, ReadAs, the_texts};
+ghost use Rattle.tf_cli_inputs.specs.Texts.{IsPrior, ReadAs, the_texts};
 
+use crate::configuration::{Configuration, Vars, read_configuration, read_variables};
 use std::alloc::{AllocError, Global};
-use std::collections::BTreeMap;
-use tf_config_json::{Config, names_are_few, read, read_vars};
-use tf_config_names::{Dependence, check_names};
 use tf_config_refusal::{Code, Detail, Refusal};
-use tf_graph::MAX_NODES;
 use tf_state::{StateFault, new_states_are_valid, read as read_state, read_states_are_valid};
 use tf_state_data::State;
-use tf_value_data::Value;
 
-/// What the texts that a user gives stand for.
+/// The content of the texts that a user gives.
 #[derive(Drop)]
 pub struct Inputs {
     /// The configuration.
-    pub config: Config,
+    pub configuration: Configuration,
     /// The values of its variables.
-    pub values: BTreeMap<String, Value>,
-    /// Which of its names needs which.
-    pub dependence: Dependence,
+    pub values: Vars,
     /// The state that a plan starts from.
     pub prior: State,
 }
 
-/// Reads the texts that a user gives: the configuration, the values of its variables, and the prior state. Where there
-/// is none, the prior state is the empty one of the lineage that is given.
+/// Reads the texts that a user gives: the configuration, the values of its variables, and the prior state. If there
+/// is no text of a state, the prior state is the empty one with the given lineage.
 ///
 /// # Errors
 ///
-/// The first of these in the order of tests, or `OutOfMemory`.
-/// - What `tf_config_json::read` refuses.
-/// - What `tf_config_names::check_names` refuses: 4 and then 5.
-/// - What `tf_config_json::read_vars` refuses.
-/// - 13 at `state` where the prior state's text is no state's, and 14 there where the state is beyond a limit.
+/// Fails with the first of these in the order of tests, or with `OutOfMemory`:
+/// - the refusals of `tf_config_json::read`;
+/// - the refusals of `tf_config_names::check_names`: 4 and then 5;
+/// - the refusals of `tf_config_json::read_vars`;
+/// - 13 at `state` if the prior state's text is no state's, and 14 there if the state is beyond a limit.
 pub fn read_texts(
     alloc: Global,
     config: &[u8],
@@ -53,44 +45,19 @@ pub fn read_texts(
     lineage: &str,
 ) -> Result<Inputs, Refusal>
     ensures stand { IfOk result (λ i. ReadAs (the_texts config.now (option_map (λ s. s.now) vars.entry) (option_map (λ s. s.now) state.entry)) lineage.now
-        (config_of i.config) (entries_view i.values.entries) (state_of i.prior)) }
-    ensures dependence { IfOk result (λ i. IsDependence (names_of (config_of i.config)) i.dependence) }
-    ensures acyclic { IfOk result (λ i. IsAcyclic i.dependence) }
+        (config_of i.configuration.config) (entries_view i.values.entries) (state_of i.prior)) }
+    ensures plannable { IfOk result (λ i. IsPlannable (state_of i.prior)) }
     ensures valid { IfOk result (λ i. IsValid (state_of i.prior)) }
-    ensures few { IfOk result (λ i. length (names_of (config_of i.config)) + length (state_of i.prior).resources ≤ MAX_NODES) }
-    ensures serial { IfOk result (λ i. (state_of i.prior).serial + 1 < 2 ^ 32) }
     ensures refused { IfErr result (λ r. IsToldOf (the_texts config.now (option_map (λ s. s.now) vars.entry) (option_map (λ s. s.now) state.entry)) (refusal_of r)) }
 {
-    let config = read_config(alloc, config)?;
-    let dependence = dependence_of(alloc, &config)?;
-    let values = read_vars(alloc, vars, &config)?;
+    let configuration = read_configuration(alloc, config)?;
+    let values = read_variables(alloc, vars, &configuration)?;
     let prior = read_prior(alloc, state, lineage)?;
     Ok(Inputs {
-        config,
+        configuration,
         values,
-        dependence,
         prior,
     })
-}
-
-/// The configuration that a text is.
-fn read_config(alloc: Global, text: &[u8]) -> Result<Config, Refusal>
-    ensures read { IfOk result (λ config. IsRead text.now (config_of config)) }
-    ensures refused { IfErr result (λ r. IsRefused text.now (refusal_of r)) }
-{
-    read(alloc, text)
-}
-
-/// Which name of a configuration needs which, where all names are good.
-fn dependence_of(alloc: Global, config: &Config) -> Result<Dependence, Refusal>
-    requires few { IsWithinCounts (config_of config.now) }
-    ensures good { OnOk result (AreNamesGood (config_of config.now)) }
-    ensures dependence { IfOk result (IsDependence (names_of (config_of config.now))) }
-    ensures acyclic { IfOk result IsAcyclic }
-    ensures refused { IfErr result (λ r. RefusesItsNames (config_of config.now) (refusal_of r)) }
-{
-    names_are_few();
-    check_names(alloc, config)
 }
 
 /// The state that a plan starts from: the one that a text is, or the empty one of a lineage where there is no text.
@@ -110,7 +77,7 @@ fn read_prior(alloc: Global, state: Option<&[u8]>, lineage: &str) -> Result<Stat
     }
 }
 
-/// How a fault of the state's text is refused.
+/// Returns the refusal of a fault of the state's text.
 fn state_refusal(alloc: Global, why: StateFault) -> Result<Refusal, AllocError>
     ensures { IfOk result (λ r. refusal_of r ≡ fault_told why) }
 {
@@ -121,8 +88,12 @@ fn state_refusal(alloc: Global, why: StateFault) -> Result<Refusal, AllocError>
     }
 }
 
-/// The refusal with a code that stands at the state.
-fn at_state(alloc: Global, code: Code) -> Result<Refusal, AllocError>
+/// Returns the refusal with a code, placed at `state`.
+///
+/// # Errors
+///
+/// Fails only if memory runs out.
+pub fn at_state(alloc: Global, code: Code) -> Result<Refusal, AllocError>
     ensures { IfOk result (λ r. refusal_of r ≡ at_state code) }
 {
     Ok(Refusal::Fault {

@@ -1,7 +1,7 @@
--- What a writer holds after a text was written to it.
+-- The content of a writer after a text was written to it.
 use Rattle.std.specs.Prelude.{◌≤◌, ℕ, List, length, take, Option}
 use Rattle.std.specs.Io.KnownBytes.{Appends}
 
--- the text was added as far as some place
+-- a beginning of the text was appended
 abbrev pub AppendsStart : Option (List ℕ) → Option (List ℕ) → List ℕ → Type 0
 AppendsStart old new text = (n : ℕ) × (n ≤ length text) × Appends old new (take n text)

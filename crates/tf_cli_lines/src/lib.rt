@@ -1,4 +1,4 @@
-//! Texts that are written to outputs, whole or a first part of them, and the lines of refusals.
+//! Writing texts to outputs, whole or in part, and the lines of refusals.
 #![tactic(auto)]
 
 mod lines;

@@ -1,4 +1,4 @@
-//! Printing what is refused.
+//! Printing refusals.
 
 ghost use Rattle.std.specs.Io.KnownBytes.{Appends};
 ghost use Rattle.std.specs.List.{flat_map};
@@ -14,7 +14,7 @@ use itoa::Buffer;
 use std::io::Write;
 use tf_config_refusal::{Detail, EvalFault, Refusal};
 
-/// Prints each refusal in a line. Where a write fails, what was written is a beginning of that.
+/// Prints each refusal on a line. If a write fails, a beginning of these lines was written.
 pub fn print_refusals<E: Write>(refusals: &[Refusal], err: &mut E) -> Result<(), SaveFault>
     ensures whole { OnOk result (Appends (E.contents err.old) (E.contents err.new) (flat_map (λ r. refusal_line (refusal_of r)) refusals.now)) }
     ensures part { AppendsStart (E.contents err.old) (E.contents err.new) (flat_map (λ r. refusal_line (refusal_of r)) refusals.now) }
@@ -25,7 +25,7 @@ pub fn print_refusals<E: Write>(refusals: &[Refusal], err: &mut E) -> Result<(),
     Ok(())
 }
 
-/// Prints a refusal in a line. Where a write fails, what was written is a beginning of that.
+/// Prints a refusal on a line. If a write fails, a beginning of this line was written.
 pub fn print_refusal<E: Write>(refusal: &Refusal, err: &mut E) -> Result<(), SaveFault>
     ensures whole { OnOk result (Appends (E.contents err.old) (E.contents err.new) (refusal_line (refusal_of refusal.now))) }
     ensures part { AppendsStart (E.contents err.old) (E.contents err.new) (refusal_line (refusal_of refusal.now)) }
@@ -56,7 +56,7 @@ fn print_fault<'a, E: Write>(
     save(err, "\n")
 }
 
-/// Prints what stands before the detail.
+/// Prints a refusal's line up to its detail.
 fn print_opening<'a, E: Write>(
     code: u8,
     place: &'a str,
@@ -71,7 +71,7 @@ fn print_opening<'a, E: Write>(
     save_all(err, &texts)
 }
 
-/// Prints what stands behind the name of a refusal, in parentheses.
+/// Prints a refusal's detail, in parentheses.
 fn print_detail<E: Write>(detail: &Detail, err: &mut E) -> Result<(), SaveFault>
     ensures whole { OnOk result (Appends (E.contents err.old) (E.contents err.new) (detail_text (detail_of detail.now))) }
     ensures part { AppendsStart (E.contents err.old) (E.contents err.new) (detail_text (detail_of detail.now)) }
@@ -113,7 +113,7 @@ fn print_list<E: Write>(first: &str, others: &[String], err: &mut E) -> Result<(
     save(err, ")")
 }
 
-/// Prints names behind another one.
+/// Prints names, each after a comma.
 fn print_others<E: Write>(names: &[String], err: &mut E) -> Result<(), SaveFault>
     ensures whole { OnOk result (Appends (E.contents err.old) (E.contents err.new) (flat_map (λ name. codes ", " ++ string_bytes name) names.now)) }
     ensures part { AppendsStart (E.contents err.old) (E.contents err.new) (flat_map (λ name. codes ", " ++ string_bytes name) names.now) }
@@ -124,7 +124,7 @@ fn print_others<E: Write>(names: &[String], err: &mut E) -> Result<(), SaveFault
     Ok(())
 }
 
-/// Prints a text behind another.
+/// Prints a text after another.
 fn print_behind<'a, E: Write>(before: &'a str, text: &'a str, err: &mut E) -> Result<(), SaveFault>
     ensures whole { OnOk result (Appends (E.contents err.old) (E.contents err.new) (before.now ++ text.now)) }
     ensures part { AppendsStart (E.contents err.old) (E.contents err.new) (before.now ++ text.now) }
@@ -133,7 +133,7 @@ fn print_behind<'a, E: Write>(before: &'a str, text: &'a str, err: &mut E) -> Re
     save_all(err, &texts)
 }
 
-/// The name of a fault, as it prints it itself.
+/// Returns the name of a fault, as its `Display` prints it.
 fn fault_name(fault: EvalFault) -> &'static str
     ensures { result.now ≡ eval_fault_name fault }
 {

@@ -9,7 +9,7 @@ use std::io;
 use std::io::Write;
 use thiserror::Error;
 
-/// Why a text isn't written whole.
+/// Why a text isn't written completely.
 #[derive(Debug, Drop, Error)]
 pub enum SaveFault {
     /// A write failed.
@@ -20,7 +20,7 @@ pub enum SaveFault {
     TookNothing,
 }
 
-/// Writes a text. Where that fails, the writer has got as much of its beginning as it took.
+/// Writes a text. If this fails, the writer has the beginning that it took.
 pub fn save<W: Write>(writer: &mut W, text: &str) -> Result<(), SaveFault>
     ensures whole { OnOk result (Appends (W.contents writer.old) (W.contents writer.new) text.now) }
     ensures part { AppendsStart (W.contents writer.old) (W.contents writer.new) text.now }
@@ -37,7 +37,7 @@ pub fn save<W: Write>(writer: &mut W, text: &str) -> Result<(), SaveFault>
     Ok(())
 }
 
-/// Writes texts one after another. Where that fails, the writer has got as much of their beginning as it took.
+/// Writes texts one after another. If this fails, the writer has the beginning that it took.
 pub fn save_all<W: Write>(writer: &mut W, texts: &[&str]) -> Result<(), SaveFault>
     ensures whole { OnOk result (Appends (W.contents writer.old) (W.contents writer.new) (flat_map (λ t. t.now) texts.now)) }
     ensures part { AppendsStart (W.contents writer.old) (W.contents writer.new) (flat_map (λ t. t.now) texts.now) }

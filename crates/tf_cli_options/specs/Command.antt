@@ -7,15 +7,15 @@ use Rattle.clap.specs.declared.builder.value_parser.ValueParser.TheVariants as v
 use Rattle.tf_cli_options.specs.declared.words.Program.{Program}
 use Rattle.tf_cli_options.specs.declared.words.Program.TheVariants.{Plan, Apply}
 
--- an option `--NAME VALUE`, which needn't be given
+-- an option `--NAME VALUE`, which may be omitted
 abbrev pub option_rule : Text → Rule
 option_rule name = record (new_rule name) { long = Some name; value_names = 1 }
 
--- the same, with the value that it has where it isn't given
+-- an option `--NAME VALUE`, with a default if it is omitted
 abbrev pub default_rule : Text → Text → Rule
 default_rule name default = record (option_rule name) { defaults = default ∷ [] }
 
--- the number of workers: a whole number of 1 to 64, and 10 where it isn't given
+-- the number of workers: a whole number of 1 to 64, by default 10
 abbrev pub workers_rule : Rule
 workers_rule = record (default_rule (codes "parallelism") (codes "10")) { parser = Some (vp.Unsigned 1 64) }
 
@@ -23,7 +23,7 @@ workers_rule = record (default_rule (codes "parallelism") (codes "10")) { parser
 abbrev pub stop_rule : Rule
 stop_rule = record (option_rule (codes "stop-after")) { parser = Some (vp.Unsigned 0 2000) }
 
--- The words that name the forms of a graph, as they lie in memory.
+-- The words that name the forms of a graph, borrowed.
 abbrev pub Forms : Type 0
 Forms = Bor (List (Bor Text))
 
@@ -31,7 +31,7 @@ Forms = Bor (List (Bor Text))
 abbrev pub AreForms : Forms → Type 0
 AreForms forms = map (λ form. form.now) forms.now ≡ codes "dot" ∷ []
 
--- in which form the order is printed in place of the plan's text: one of these words, or nothing
+-- the form in which the order is printed in place of the plan's text: one of these words, or nothing
 abbrev pub graph_rule : Forms → Rule
 graph_rule forms = record (option_rule (codes "graph")) { parser = Some (vp.Names forms) }
 
@@ -39,13 +39,13 @@ graph_rule forms = record (option_rule (codes "graph")) { parser = Some (vp.Name
 abbrev pub progress_rule : Rule
 progress_rule = record (new_rule (codes "progress")) { long = Some (codes "progress"); action = Some SetTrue }
 
--- `plan` draws, and `apply` tells how it gets on; neither takes the other's option
+-- `plan` draws a graph, and `apply` prints progress; neither takes the other's option
 abbrev pub own_rule : Program → Forms → Rule
 own_rule Plan forms = graph_rule forms
 own_rule Apply forms = progress_rule
 
--- What both programs take: where the configuration is read, where the variables' values are, where the state is read and
--- written, the lineage of a new state, the number of workers, and after how many calls to stop.
+-- The options of both programs: the files of the configuration, of the variables' values and of the state, the
+-- lineage of a new state, the number of workers, and after how many calls to stop.
 unfoldable pub shared_app : App
 shared_app =
     with_rule (with_rule (with_rule (with_rule (with_rule (with_rule (new_app (codes "bixundor"))
@@ -56,6 +56,6 @@ shared_app =
     workers_rule)
     stop_rule
 
--- what a program takes
+-- the command line of a program
 abbrev pub options_app : Program → Forms → App
 options_app program forms = with_rule shared_app (own_rule program forms)

@@ -1,4 +1,4 @@
--- What the options are, by what `clap` finds in the words.
+-- The options, as read from what `clap` finds in the words.
 use Rattle.std.specs.Prelude.{◌≡◌, ℕ, Bool, true, false, if◌then◌else◌, List, Option, Some, None, MatchOption, codes, option_and_then, option_map, unwrap_or, string_bytes}
 use Rattle.std.specs.Str.{bytes_eq}
 use Rattle.std.specs.Str.Parse.{digits_value, without_leading_plus}
@@ -7,17 +7,17 @@ use Rattle.tf_cli_options.specs.declared.words.GraphForm.{GraphForm}
 use Rattle.tf_cli_options.specs.declared.words.GraphForm.TheVariants.{Dot}
 use Rattle.tf_cli_options.specs.declared.words.Options.{Options}
 
--- the value that was given for an option, or its default
+-- the given value of an option, or its default
 abbrev pub given_or : Text → Text → List Row → Text
 given_or name default rows = unwrap_or (first_of name rows) default
 
--- A text is the decimal form of a number of workers, 1 to 64, and this is the number. (Any other text is
--- refused.) Where no text is given there are 10.
+-- The number of workers: if a text is given that is the decimal form of a number of 1 to 64, that number. (Any other
+-- text is refused.) If no text is given, 10.
 abbrev pub IsWorkers : Option Text → ℕ → Type 0
 IsWorkers given n = MatchOption given (n ≡ 10) (λ text. IsUnsignedIn 1 64 text → n ≡ digits_value 10 (without_leading_plus text))
 
--- A text is the decimal form of a number of calls, 0 to 2,000, and this is the number. (Any other text is refused.) Where
--- no text is given, no number is said.
+-- The number of calls: if a text is given that is the decimal form of a number of 0 to 2,000, that number. (Any other
+-- text is refused.) If no text is given, no number.
 abbrev pub IsStop : Option Text → Option ℕ → Type 0
 IsStop given calls = MatchOption given (calls ≡ None) (λ text. IsUnsignedIn 0 2000 text → calls ≡ Some (digits_value 10 (without_leading_plus text)))
 
@@ -25,12 +25,11 @@ IsStop given calls = MatchOption given (calls ≡ None) (λ text. IsUnsignedIn 0
 abbrev pub form_named : Text → Option GraphForm
 form_named name = if bytes_eq name (codes "dot") then Some Dot else None
 
--- A flag is set where the text is `true`, and not where it is `false` or there is none.
+-- A flag is set if the text is `true`, and not set if it is `false` or there is no text.
 abbrev pub IsFlag : Option Text → Bool → Type 0
 IsFlag given set = MatchOption given (set ≡ false) (λ text. (text ≡ codes "true" → set ≡ true) × (text ≡ codes "false" → set ≡ false))
 
--- Each option has the value that was given for it, or its default. For the variables' values there is no file
--- where none is given.
+-- Each option has its given value, or its default. The file of the variables' values has no default.
 pub record Reads (o : Options) (rows : List Row) : Type 0 where
   pub config : string_bytes o.config ≡ given_or (codes "config") (codes "main.tf.json") rows
   pub vars : option_map (λ s. string_bytes s) o.vars ≡ first_of (codes "vars") rows

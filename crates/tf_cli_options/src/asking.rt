@@ -1,4 +1,4 @@
-//! What a program's own words ask for.
+//! The options on a program's command line.
 
 ghost use Rattle.std.specs.Prelude.{◌≤◌, IfErr, IfOk};
 ghost use Rattle.std.specs.Process.{exit_status};
@@ -11,12 +11,12 @@ use std::process::ExitCode;
 use std::rt::Env;
 use std::{env, io};
 
-/// What a program's own words ask for. Where they are refused, or ask for help, that has been told, and this is the program's
-/// status: 1 or 0.
+/// Reads the options on the program's command line. If they are refused, or ask for help, prints that and returns the
+/// program's exit status: 1 or 0.
 ///
 /// # Errors
 ///
-/// That a word isn't UTF-8, and want of memory.
+/// Fails if a word isn't UTF-8, or if memory runs out.
 pub fn asked_of<R: Env + AllocGlobal, O: Write, E: Write>(
     rt: &R,
     program: Program,
@@ -29,7 +29,7 @@ pub fn asked_of<R: Env + AllocGlobal, O: Write, E: Write>(
     Ok(read_options(rt.alloc(), program, words.as_slice(), out, err))
 }
 
-/// The options that words say. Where they are refused, or ask for help, that has been told.
+/// Reads options from words. If they are refused, or ask for help, prints that and returns the exit status.
 fn read_options<O: Write, E: Write>(
     alloc: Global,
     program: Program,

@@ -1,4 +1,4 @@
-//! The words of a command line: what the programs `plan` and `apply` are asked for, as `clap` reads it.
+//! The command line of the programs `plan` and `apply`, as `clap` reads it.
 #![tactic(auto)]
 
 mod asking;

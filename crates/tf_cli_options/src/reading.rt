@@ -1,4 +1,4 @@
-//! Reading the words of a command line.
+//! Reading of a command line.
 
 ghost use Rattle.std.specs.Prelude.{◌≡◌, ◌≤◌, false, IfOk, IfSome, codes, map, option_and_then, option_map, string_bytes};
 ghost use Rattle.clap.specs.Words.{FailsBy, app_of, fault_of, first_of, found_of, matches_of, one_of, rows_of, rule_of};
@@ -17,11 +17,11 @@ const DOT: &str = "dot";
 
 const LINEAGE: &str = "00000000-0000-0000-0000-000000000000";
 
-/// The forms in which `--graph` prints an order.
+/// The forms in which `--graph` prints the order.
 const FORMS: [&str; 1] = [DOT];
 
-/// Reads the words of a program's command line, the program's name first. An error is `clap`'s: words that it refuses,
-/// a wish for help, or no memory.
+/// Reads the words of a program's command line, the program's name first. Fails with `clap`'s error if it refuses the
+/// words, if they ask for help, or if memory runs out.
 pub fn options(alloc: Global, program: Program, words: &[String]) -> Result<Options, Error>
     ensures reads { IfOk result (λ o. (forms : Forms) × AreForms forms × Reads o (matches_of (options_app program forms) (map (λ w. string_bytes w) words.now))) }
     ensures workers { IfOk result (λ o. (1 ≤ o.parallelism) × (o.parallelism ≤ 64)) }
@@ -45,7 +45,7 @@ fn parsed<'a>(
     command(alloc, program, forms)?.try_get_matches_from(words)
 }
 
-/// The command of a program: what both have, and the option that is its own.
+/// Returns the command of a program: the shared options, and the program's own one.
 fn command<'a>(
     alloc: Global,
     program: Program,
@@ -56,7 +56,7 @@ fn command<'a>(
     shared_command(alloc)?.arg(own_option(alloc, program, forms))
 }
 
-/// The options that the programs share.
+/// Returns the command with the options that the programs share.
 fn shared_command<'a>(alloc: Global) -> Result<Command<'a>, AllocError>
     ensures { IfOk result (λ c. app_of c ≡ shared_app) }
 {
@@ -75,7 +75,7 @@ fn shared_command<'a>(alloc: Global) -> Result<Command<'a>, AllocError>
         .arg(stop_option(alloc))
 }
 
-/// The option that a program alone has.
+/// Returns the option that only this program has.
 fn own_option<'a>(alloc: Global, program: Program, forms: &'a [&'a str]) -> Arg<'a>
     ensures rule { rule_of result ≡ own_rule program forms.entry }
     ensures local { result.global ≡ false }
@@ -224,7 +224,7 @@ fn graph_in(matches: &ArgMatches<'_>) -> Option<GraphForm>
     }
 }
 
-/// The form of a name, if there is one.
+/// Returns the form of a name, if there is one.
 fn form_named(name: &str) -> Option<GraphForm>
     ensures { result ≡ form_named name.now }
 {

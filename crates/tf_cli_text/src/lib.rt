@@ -1,4 +1,4 @@
-//! What is printed and written of an answer of the engine, and the status that a program ends with.
+//! What a program prints and writes of the engine's answer, and its exit status.
 #![tactic(auto)]
 
 mod applied;

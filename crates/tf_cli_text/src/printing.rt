@@ -1,4 +1,4 @@
-//! What an apply prints, and its status.
+//! The output of an apply, and its exit status.
 
 ghost use Rattle.std.specs.Io.KnownBytes.{Appends};
 ghost use Rattle.std.specs.List.{list_all};
@@ -16,13 +16,13 @@ use tf_provider::Verdict;
 use tf_walk_action::Outcome;
 use tf_walk_report::{Diagnostic, Report, Walked};
 
-/// Whether something was printed.
+/// Whether printing succeeded.
 type Printed = Result<(), SaveFault>;
 
-/// Prints all that `apply` prints before it writes the state file, and answers the status so far: 1 where
-/// something is refused, 3 where the state has changed and there is no text of it, 2 where some action or output
-/// isn't good or the report is torn, else 0. Where a write to a writer fails, nothing more is written to it, and no
-/// answer tells of that: `print` does.
+/// Prints all that `apply` prints before it writes the state file, and returns the status so far: 1 if the apply is
+/// refused, 3 if the state has changed and there is no text of it, 2 if some action or output isn't good or the
+/// report is torn, else 0. If a write to a writer fails, writes nothing more to it, and ignores the error. `print`
+/// returns it.
 pub fn show<O: Write, E: Write>(answer: &Result<Applied, Refused>, out: &mut O, err: &mut E) -> u8
     ensures status { result ≡ status_of answer.now }
     ensures output { AppendsStart (O.contents out.old) (O.contents out.new) (output_of answer.now) }
@@ -32,8 +32,8 @@ pub fn show<O: Write, E: Write>(answer: &Result<Applied, Refused>, out: &mut O, 
     status(answer)
 }
 
-/// Prints all that `apply` prints before it writes the state file. Where a write to a writer fails, nothing
-/// more is written to it, and what is left is still written to the other.
+/// Prints all that `apply` prints before it writes the state file. If a write to a writer fails, writes nothing more
+/// to it, but still writes the rest to the other one.
 #[tactic(auto, using(tf_cli_lines::proofs::Writes::appends_none))]
 pub fn print<O: Write, E: Write>(
     answer: &Result<Applied, Refused>,
@@ -87,7 +87,7 @@ fn print_applied<O: Write, E: Write>(applied: &Applied, out: &mut O, err: &mut E
     warned
 }
 
-/// Prints the summary, where all that comes before it was printed.
+/// Prints the summary, if all that comes before it was printed.
 fn print_summary<O: Write>(before: Printed, report: &Report, out: &mut O) -> Printed
     ensures whole { MatchResult before (λ _. OnOk result (Appends (O.contents out.old) (O.contents out.new) (report_summary report.now))) (λ _. IsErr result) }
     ensures part { MatchResult before (λ _. AppendsStart (O.contents out.old) (O.contents out.new) (report_summary report.now)) (λ _. O.contents out.new ≡ O.contents out.old) }
@@ -97,7 +97,7 @@ fn print_summary<O: Write>(before: Printed, report: &Report, out: &mut O) -> Pri
     print_counts(opening(is_complete(report)), added, changed, destroyed, out)
 }
 
-/// Prints what is told behind the diagnostics, where these were printed.
+/// Prints the warnings after the diagnostics, if these were printed.
 fn print_warnings<E: Write>(before: Printed, applied: &Applied, err: &mut E) -> Printed
     ensures whole { MatchResult before (λ _. OnOk result (Appends (E.contents err.old) (E.contents err.new) (warnings applied.now))) (λ _. IsErr result) }
     ensures part { MatchResult before (λ _. AppendsStart (E.contents err.old) (E.contents err.new) (warnings applied.now)) (λ _. E.contents err.new ≡ E.contents err.old) }
@@ -178,7 +178,7 @@ fn print_error<'a, E: Write>(
     save_all(err, &texts)
 }
 
-/// Prints each refusal in a line. Where a write fails, nothing more is written.
+/// Prints each refusal on a line. If a write fails, writes nothing more.
 pub fn print_refused<E: Write>(refused: &Refused, err: &mut E) -> Printed
     ensures whole { OnOk result (Appends (E.contents err.old) (E.contents err.new) (refused_errors refused.now)) }
     ensures part { AppendsStart (E.contents err.old) (E.contents err.new) (refused_errors refused.now) }
@@ -195,7 +195,7 @@ fn is_torn(walked: &Walked) -> bool
     matches!(walked, Walked::Torn(_))
 }
 
-/// Whether each action is good, and nothing is told of any output.
+/// Returns whether each action is good, and there is no diagnostic of any output.
 fn is_complete(report: &Report) -> bool
     ensures { result ≡ all_good report.now }
 {
@@ -219,7 +219,7 @@ fn is_good(outcome: Outcome) -> bool
     matches!(outcome, Outcome::Judged(Verdict::Good))
 }
 
-/// Whether the state has changed and there is no text of it.
+/// Returns whether the state has changed and there is no text of it.
 fn cant_write(applied: &Applied) -> bool
     ensures { result ≡ cant_write applied.now }
 {
@@ -246,7 +246,7 @@ fn unwritten_error(unwritten: bool) -> &'static str
     }
 }
 
-/// How the summary begins.
+/// Returns the beginning of the summary.
 fn opening(complete: bool) -> &'static str
     ensures { result.now ≡ summary_opening complete }
 {

@@ -10,7 +10,7 @@ is_letter c = (nat_le 65 c && nat_le c 90) || (nat_le 97 c && nat_le c 122)
 abbrev pub starts_name : ℕ → Bool
 starts_name c = (c == 95) || is_letter c
 
--- and goes on with ASCII letters, digits, `_` and `-`
+-- after its first byte a name has ASCII letters, digits, `_` and `-`
 abbrev pub continues_name : ℕ → Bool
 continues_name c = starts_name c || (nat_le 48 c && nat_le c 57) || (c == 45)
 

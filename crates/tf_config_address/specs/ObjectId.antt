@@ -1,4 +1,4 @@
--- The instances of a resource and their objects, and in which order they stand.
+-- The instances of a resource and their objects, and their order.
 use Rattle.std.specs.Prelude.{ℕ, List, Option, Some, None, String, string_bytes, option_map}
 use Rattle.std.specs.Cmp.Lexicographic.{slice_cmp}
 use Rattle.std.specs.Ordering.{nat_cmp, ordering_then}
@@ -15,7 +15,7 @@ pub data InstanceKeyView : Type 0 where
   number : ℕ → InstanceKeyView
   name : List ℕ → InstanceKeyView
 
--- Which object of a resource: its instance, and the current one or a deposed one by its key.
+-- Identifies an object of a resource: its instance, and no key for the current object or the key of a deposed one.
 pub record ObjectIdView : Type 0 where
   pub key : InstanceKeyView
   pub deposed : Option (List ℕ)
@@ -31,7 +31,7 @@ deposed_of = option_map string_bytes
 abbrev pub object_id_of : ObjectId → ObjectIdView
 object_id_of p = record { key = instance_key_of p.key; deposed = deposed_of p.deposed }
 
--- instances stand in this order: without a key, by number, by name byte by byte
+-- the order of instances: without a key, then by number, then by name byte by byte
 abbrev pub instance_key_cmp : InstanceKeyView → InstanceKeyView → Ordering
 instance_key_cmp single single = Equal
 instance_key_cmp single (number n) = Less
@@ -43,13 +43,13 @@ instance_key_cmp (name s) single = Greater
 instance_key_cmp (name s) (number n) = Greater
 instance_key_cmp (name s) (name t) = slice_cmp nat_cmp s t
 
--- the current object stands before the deposed ones, which stand by their keys
+-- the current object comes before the deposed ones, which are ordered by their keys
 abbrev pub deposed_cmp : Option (List ℕ) → Option (List ℕ) → Ordering
 deposed_cmp None None = Equal
 deposed_cmp None (Some t) = Less
 deposed_cmp (Some s) None = Greater
 deposed_cmp (Some s) (Some t) = slice_cmp nat_cmp s t
 
--- objects stand by instance, and those of one instance by what is deposed
+-- objects are ordered by instance, and those of one instance by `deposed_cmp`
 abbrev pub object_id_cmp : ObjectIdView → ObjectIdView → Ordering
 object_id_cmp a b = ordering_then (instance_key_cmp a.key b.key) (deposed_cmp a.deposed b.deposed)

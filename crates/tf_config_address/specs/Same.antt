@@ -1,4 +1,4 @@
--- When addresses and objects are the same: where each of their parts is.
+-- When addresses and objects are the same: if each of their parts is.
 use Rattle.std.specs.Prelude.{◌≡◌, ℕ, Bool, true, false, ◌&&◌, ◌==◌, List, Option, Some, None, bytes_eq, refl}
 use Rattle.std.specs.Bool.{Decides}
 use Rattle.std.specs.Cmp.{unsigned_Decides}
@@ -9,18 +9,18 @@ use Rattle.std.proofs.lemmas.Slice.Eq.{bytes_eq-Decides}
 use Rattle.tf_config_address.specs.ResourceAddr.{ResourceAddrView}
 use Rattle.tf_config_address.specs.ObjectId.{InstanceKeyView, single, number, name, ObjectIdView}
 
--- addresses are the same where their types are and their names are
+-- addresses are the same if their types and their names are the same
 abbrev pub same_addr : ResourceAddrView → ResourceAddrView → Bool
 same_addr a b = bytes_eq a.type_name b.type_name && bytes_eq a.name b.name
 
--- instances are the same where both have no key, both the same number, or both the same name
+-- instances are the same if both have no key, both the same number, or both the same name
 abbrev pub same_instance_key : InstanceKeyView → InstanceKeyView → Bool
 same_instance_key single single = true
 same_instance_key (number m) (number n) = m == n
 same_instance_key (name s) (name t) = bytes_eq s t
 same_instance_key _ _ = false
 
--- objects are the same where their instances are, and both are current or deposed by the same key
+-- objects are the same if their instances are the same, and both are current or both are deposed by the same key
 abbrev pub same_object_id : ObjectIdView → ObjectIdView → Bool
 same_object_id p q = same_instance_key p.key q.key && option_eq bytes_eq p.deposed q.deposed
 

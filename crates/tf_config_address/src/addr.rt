@@ -1,7 +1,7 @@
 use std::fmt;
 
-/// A resource's type and name, as in `sim_net.a`. The derived order, by type and then by name, is the
-/// order of addresses.
+/// A resource's type and name, as in `sim_net.a`. The derived order, by type and then by name, is the order of
+/// addresses.
 #[derive(Clone, Debug, PartialEq, Eq, PartialOrd, Ord, Drop)]
 pub struct ResourceAddr {
     /// The resource's type, such as `sim_net`.
@@ -10,7 +10,7 @@ pub struct ResourceAddr {
     pub name: String,
 }
 
-/// The address `TYPE.NAME` of a resource.
+/// Writes the address `TYPE.NAME` of a resource.
 impl fmt::Display for ResourceAddr {
     ghost use Rattle.std.specs.Prelude.{Some};
     ghost use Rattle.tf_config_address.specs.ResourceAddr.{addr_of, addr_text};
@@ -28,7 +28,7 @@ impl ResourceAddr {
     ghost use Rattle.std.specs.Prelude.{◌≡◌};
     ghost use Rattle.tf_config_address.specs.ResourceAddr.{addr_of, addr_below};
 
-    /// Whether this address comes before another: by type, and then by name, byte by byte.
+    /// Checks whether this address comes before another: by type, and then by name, byte by byte.
     pub fn is_below(&self, other: &ResourceAddr) -> bool
         ensures { result ≡ addr_below (addr_of self.now) (addr_of other.now) }
     {

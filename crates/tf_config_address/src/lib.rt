@@ -1,8 +1,8 @@
-//! Names and addresses of resources, which every layer above shares.
+//! Names and addresses of resources, which all higher-level crates use.
 //!
-//! A name is an identifier of Terraform's JSON syntax as this engine reads it. A resource stands at the
-//! address `TYPE.NAME`, and addresses are ordered by type and then by name, byte by byte. Its instances have keys,
-//! and an object of an instance is its current one or one that was deposed.
+//! A name is an identifier of Terraform's JSON syntax as this engine reads it. The address of a resource is
+//! `TYPE.NAME`. Addresses are ordered by type and then by name, byte by byte. The instances of a resource have keys,
+//! and an object of an instance is its current one or a deposed one.
 #![tactic(auto)]
 
 pub mod addr;

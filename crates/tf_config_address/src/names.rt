@@ -2,8 +2,8 @@ ghost use Rattle.std.specs.List.{list_all};
 ghost use Rattle.std.specs.Prelude.{◌≡◌};
 ghost use Rattle.tf_config_address.specs.Name.{is_name, starts_name, continues_name};
 
-/// Whether a text is a name: an ASCII letter or `_`, and then ASCII letters, digits, `_` and `-`.
-/// So `web-1` is one name, and the empty text is none.
+/// Checks whether a text is a name: an ASCII letter or `_`, followed by ASCII letters, digits, `_` and `-`. So `web-1`
+/// is one name, and the empty text is not a name.
 pub fn is_name(text: &str) -> bool
     ensures { result ≡ is_name text.now }
 {

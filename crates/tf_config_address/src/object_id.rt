@@ -1,7 +1,7 @@
 //! The instances of a resource, and their objects.
 
-/// Which instance of a resource. The derived order is the order of addresses: the one without a key, then
-/// numbers, then names byte by byte.
+/// The key of an instance of a resource. The derived order is the order of addresses: no key, then numbers, then names
+/// byte by byte.
 #[derive(Clone, Debug, PartialEq, Eq, PartialOrd, Ord, Drop)]
 pub enum InstanceKey {
     /// The only instance of a resource without `count` and `for_each`.
@@ -12,12 +12,13 @@ pub enum InstanceKey {
     Name(String),
 }
 
-/// Which object of a resource: its instance, and whether it is deposed. The derived order is the order of
-/// writing: by instance, and at one instance the current object before deposed ones by their keys.
+/// Identifies an object of a resource: its instance, and whether it is deposed. Objects are written in the derived
+/// order: by instance, and within an instance the current object before the deposed ones, which are ordered by their
+/// keys.
 #[derive(Clone, Debug, PartialEq, Eq, PartialOrd, Ord, Drop)]
 pub struct ObjectId {
     /// The instance.
     pub key: InstanceKey,
-    /// The key of a deposed object, eight lower-case hex digits; none for the current object.
+    /// The key of a deposed object, eight lower-case hex digits, or `None` for the current object.
     pub deposed: Option<String>,
 }

@@ -1,4 +1,4 @@
--- A configuration without where it lies in memory.
+-- A configuration as plain data.
 use Rattle.std.specs.Prelude.{ℕ, Bool, Option, option_map, List, map, string_bytes, String}
 use Rattle.std.specs.declared.alloc.Global.{Global}
 use Rattle.tf_config_address.specs.ResourceAddr.{ResourceAddrView, addr_of}
@@ -13,7 +13,7 @@ use Rattle.tf_config_data.specs.declared.config.Repetition.TheVariants.{Single, 
 use Rattle.tf_config_data.specs.declared.variable.Variable.{Variable}
 use Rattle.tf_config_data.specs.declared.variable.VariableType.{VariableType}
 
--- a variable: its name, its type, and its default where it has one
+-- a variable: its name, its type, and its default if it has one
 pub record VariableView : Type 0 where
   pub name : List ℕ
   pub value_type : VariableType
@@ -31,7 +31,7 @@ pub record LifecycleView : Type 0 where
   pub prevent_destroy : Bool
   pub ignore_changes : List (List ℕ)
 
--- a resource block: its address, and what it says
+-- a resource block: its address and its contents
 pub record BlockView : Type 0 where
   pub addr : ResourceAddrView
   pub repetition : RepetitionView

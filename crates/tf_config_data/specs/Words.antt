@@ -1,4 +1,4 @@
--- What contracts of the crates above cite of this crate and of those below, from one place.
+-- What contracts of higher-level crates cite of this crate and of lower-level ones, collected in one place.
 pub use Rattle.tf_config_address.specs.ResourceAddr.{addr_of, ResourceAddrView}
 pub use Rattle.tf_config_address.specs.ObjectId.{instance_key_of, InstanceKeyView}
 pub use Rattle.tf_config_data.specs.Config.{block_at, blocks_of, BlockView, config_of, repetition_of, variables_of}

@@ -5,7 +5,7 @@ use std::collections::BTreeMap;
 use tf_config_address::ResourceAddr;
 use tf_expr_syntax::Expr;
 
-/// A configuration: what it declares, by name.
+/// A configuration: its declarations, by name.
 #[derive(Debug, Drop)]
 pub struct Config {
     /// The input variables.
@@ -18,12 +18,12 @@ pub struct Config {
     pub resources: BTreeMap<ResourceAddr, Block>,
 }
 
-/// What a resource block says.
+/// The contents of a resource block.
 #[derive(Debug, Drop)]
 pub struct Block {
     /// How many instances it has.
     pub repetition: Repetition,
-    /// The resources that it names in `depends_on`, in the order of the text; one may stand there twice.
+    /// The resources that it names in `depends_on`, in the order of the text, possibly with duplicates.
     pub depends_on: Vec<ResourceAddr>,
     /// How its objects are replaced and kept.
     pub lifecycle: Lifecycle,
@@ -42,13 +42,13 @@ pub enum Repetition {
     ForEach(Expr),
 }
 
-/// What a block says in `lifecycle`.
+/// The contents of a block's `lifecycle`.
 #[derive(Debug, Drop)]
 pub struct Lifecycle {
     /// A replacement is created before the old object is destroyed.
     pub create_before_destroy: bool,
     /// A plan that would replace or delete an object is refused.
     pub prevent_destroy: bool,
-    /// The attributes whose changes are ignored, in the order of the text; one may stand there twice.
+    /// The attributes whose changes are ignored, in the order of the text, possibly with duplicates.
     pub ignore_changes: Vec<String>,
 }

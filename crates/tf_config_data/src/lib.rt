@@ -1,8 +1,8 @@
-//! A configuration as data: what it declares, by name.
+//! A configuration as data: its declarations, by name.
 //!
-//! Variables, locals, outputs and resource blocks, as Terraform's configuration language has them. Expressions are
-//! trees of `tf_expr_syntax`. The definitions in `specs/` say what each part is as plain data (`Config`), and what names
-//! stand for and refer to (`Names`). How a text is read as a configuration is said where it is read.
+//! It has variables, locals, outputs and resource blocks, as in Terraform's configuration language. Expressions are
+//! trees of `tf_expr_syntax`. The definitions in `specs/` give each part as plain data (`Config`), and what names mean
+//! and refer to (`Names`). The crates that read a text define how it is read as a configuration.
 #![tactic(auto)]
 
 mod config;

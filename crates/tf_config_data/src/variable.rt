@@ -2,7 +2,7 @@
 
 use tf_value_data::Value;
 
-/// What a text, a number or a truth value of a variable has to be.
+/// What a variable's text, number or truth value has to be.
 #[derive(Clone, Copy, Debug, PartialEq, Eq)]
 pub enum Element {
     /// `any`: every value.
@@ -26,11 +26,11 @@ pub enum VariableType {
     Map(Element),
 }
 
-/// What a `variable` block declares.
+/// The contents of a `variable` block.
 #[derive(Debug, Drop)]
 pub struct Variable {
-    /// The type; `any` where the block says none.
+    /// The type, or `any` if the block doesn't give one.
     pub value_type: VariableType,
-    /// The value where the variables file gives none.
+    /// The value if the variables file gives none.
     pub default: Option<Value>,
 }

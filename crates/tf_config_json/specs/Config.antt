@@ -1,4 +1,4 @@
--- What a body says before any of its properties is read, and what is put at a name.
+-- The value of a body before any of its properties is read, and what is put at a name.
 use Rattle.std.specs.Prelude.{ℕ, false, Option, None, List, [], ◌∷◌, option_map}
 use Rattle.std.specs.Cmp.Lexicographic.{slice_cmp}
 use Rattle.std.specs.Ordering.{nat_cmp, match_ordering}
@@ -15,7 +15,7 @@ use Rattle.tf_value_data.specs.Tree as values
 
 -- ---- variables
 
--- what the body of a variable says
+-- the contents of a variable's body
 pub record VariableBody : Type 0 where
   pub value_type : VariableType
   pub default : Option values.Tree
@@ -23,7 +23,7 @@ pub record VariableBody : Type 0 where
 abbrev pub variable_body : Variable → VariableBody
 variable_body v = record { value_type = v.value_type; default = option_map values.tree_of v.default }
 
--- Where a body says nothing, the type is `any`, and there is no default.
+-- In an empty body the type is `any`, and there is no default.
 abbrev pub plain_variable : VariableBody
 plain_variable = record { value_type = One Any; default = None }
 
@@ -42,18 +42,18 @@ put_variable v (first ∷ vs) =
 abbrev pub Blocks : Type 0
 Blocks = List BlockView
 
--- Where `lifecycle` says nothing, nothing is asked for.
+-- An empty `lifecycle` asks for nothing.
 abbrev pub plain_lifecycle : LifecycleView
 plain_lifecycle = record { create_before_destroy = false; prevent_destroy = false; ignore_changes = [] }
 
--- what the body of a resource says
+-- the contents of a resource's body
 pub record BlockBody : Type 0 where
   pub repetition : RepetitionView
   pub depends_on : List ResourceAddrView
   pub lifecycle : LifecycleView
   pub arguments : Entries
 
--- Where a body says nothing, there is one instance without arguments.
+-- An empty body has one instance without arguments.
 abbrev pub plain_block : BlockBody
 plain_block = record { repetition = single; depends_on = []; lifecycle = plain_lifecycle; arguments = no_entries }
 
@@ -66,7 +66,7 @@ block_with addr body =
 abbrev pub body_of : BlockView → BlockBody
 body_of b = record { repetition = b.repetition; depends_on = b.depends_on; lifecycle = b.lifecycle; arguments = b.arguments }
 
--- what a block says, wherever it stands
+-- the contents of a block, whatever its address
 abbrev pub block_body : Block → BlockBody
 block_body block = body_of (block_at (record { type_name = []; name = [] }) block)
 
@@ -82,7 +82,7 @@ put_block block (first ∷ blocks) =
 
 -- ---- configurations
 
--- Where a file says nothing, nothing is declared.
+-- An empty file declares nothing.
 abbrev pub plain_config : ConfigView
 plain_config = record { variables = []; locals = no_entries; outputs = no_entries; blocks = [] }
 

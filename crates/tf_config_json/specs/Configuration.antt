@@ -1,4 +1,4 @@
--- What a configuration stands for, and what is demanded of it.
+-- The configuration that a tree reads as, and what is demanded of it.
 use Rattle.std.specs.Prelude.{◌≡◌, ℕ, Bool, not, ◌&&◌, is_some, Option, Some, None, List, [], ◌∷◌, ◌++◌, IsTrue, codes}
 use Rattle.serde_json.specs.Data.{Data, object}
 use Rattle.serde_json.specs.Find.{get}
@@ -27,15 +27,15 @@ use Rattle.tf_config_json.specs.declared.words.VariableProperty.TheVariants as i
 
 -- ---- objects
 
--- What is demanded of a property depends on its own place, its name and its value.
+-- The checks of a property depend on its place, its name and its value.
 abbrev pub PropertyChecks : Type 0
 PropertyChecks = List (List ℕ) → List ℕ → Data → Checks
 
--- what is demanded of a member of the object at a place
+-- the checks of a member of the object at a place
 abbrev pub below : PropertyChecks → List (List ℕ) → List ℕ → Data → Checks
 below checks place name = checks (name ∷ place) name
 
--- an object, of whose members this is demanded
+-- an object, with these checks of its members
 abbrev pub object_checks : PropertyChecks → PartChecks
 object_checks checks place (object members) = each (below checks place) members
 object_checks checks place _ = wrong place
@@ -49,11 +49,11 @@ BuildsFrom Adds _ before after = ⊥
 abbrev pub IsSound : {B : Type 0} → (List ℕ → Data → B → B → Type 0) → PropertyChecks → Type 0
 IsSound {B} Adds checks = (name : List ℕ) (place : List (List ℕ)) (value : Data) (before after : B) → Adds name value before after → AreMet (checks place name value)
 
--- What a property says is told with what was said before it.
+-- What a property says is combined with what was said before it.
 abbrev pub Adds : {A B : Type 0} → (Data → A → Type 0) → Data → (A → B) → B → Type 0
 Adds {A} Says value with after = (said : A) × Says value said × (with said ≡ after)
 
--- a name, with what stands there
+-- a name, with the checks of its value
 abbrev pub named_checks : PartChecks → PropertyChecks
 named_checks checks place name value = demanded place (a_name name) ++ checks place value
 
@@ -87,7 +87,7 @@ variable_property_checks place name = checks_in_variable (variable_property_of n
 abbrev pub AddsVariableProperty : List ℕ → Data → VariableBody → VariableBody → Type 0
 AddsVariableProperty name = AddsInVariable (variable_property_of name)
 
--- a body stands for what it says
+-- a body reads as its contents
 abbrev pub IsVariableBody : Data → VariableBody → Type 0
 IsVariableBody value body = BuildsFrom AddsVariableProperty value plain_variable body
 
@@ -136,7 +136,7 @@ output_property_checks place name = checks_in_output (output_property_of name) p
 abbrev pub AddsOutputProperty : List ℕ → Data → Option Tree → Option Tree → Type 0
 AddsOutputProperty name = AddsInOutput (output_property_of name)
 
--- An output's body has a value. That comes before what is demanded of its properties.
+-- An output's body has a value. This is checked before its properties.
 abbrev pub output_body_checks : PartChecks
 output_body_checks place value = demanded place (holds (has (codes "value") value)) ++ object_checks output_property_checks place value
 
@@ -176,7 +176,7 @@ AddsLifecycleProperty name = AddsInLifecycle (lifecycle_property_of name)
 abbrev pub IsLifecycle : Data → LifecycleView → Type 0
 IsLifecycle value lifecycle = BuildsFrom AddsLifecycleProperty value plain_lifecycle lifecycle
 
--- In a body `//` is ignored, four names have a meaning of their own, three are refused, and any other property is an
+-- In a body `//` is ignored, four names have a special meaning, three are refused, and any other property is an
 -- argument.
 abbrev pub checks_in_block : BlockProperty → PropertyChecks
 checks_in_block in_block.Comment place name value = []
@@ -202,18 +202,18 @@ block_property_checks place name = checks_in_block (block_property_of name) plac
 abbrev pub AddsBlockProperty : List ℕ → Data → BlockBody → BlockBody → Type 0
 AddsBlockProperty name = AddsInBlock (block_property_of name) name
 
--- a body has no `count` beside a `for_each`
+-- a body doesn't have both `count` and `for_each`
 abbrev pub repeats_once : Data → Bool
 repeats_once value = not (has (codes "count") value && has (codes "for_each") value)
 
--- That comes before what is demanded of its properties.
+-- This is checked before the properties of the body.
 abbrev pub block_body_checks : PartChecks
 block_body_checks place value = demanded place (holds (repeats_once value)) ++ object_checks block_property_checks place value
 
 abbrev pub IsBlockBody : Data → BlockBody → Type 0
 IsBlockBody value body = IsTrue (repeats_once value) × BuildsFrom AddsBlockProperty value plain_block body
 
--- a name below a type, with a body
+-- a name under a type, with a body
 abbrev pub resource_checks : PropertyChecks
 resource_checks = named_checks block_body_checks
 
@@ -221,7 +221,7 @@ abbrev pub AddsResource : List ℕ → List ℕ → Data → Blocks → Blocks �
 AddsResource type_name name value before after =
     AddsNamed IsBlockBody name value (λ body. put_block (block_with (record { type_name = type_name; name = name }) body) before) after
 
--- a type below `resource`, with an object of names
+-- a type under `resource`, with an object of names
 abbrev pub type_checks : PropertyChecks
 type_checks place type_name value = demanded place (a_type_name type_name) ++ object_checks resource_checks place value
 
@@ -246,7 +246,7 @@ section_checks place name = checks_of_section (section_of name) place
 abbrev pub whole_file : List (List ℕ)
 whole_file = codes "configuration" ∷ []
 
--- The file is one object. Its properties stand at their own names.
+-- The file is one object. The places of its properties are their names.
 abbrev pub configuration_checks : Data → Checks
 configuration_checks (object members) = each (below section_checks []) members
 configuration_checks _ = wrong whole_file
@@ -263,6 +263,6 @@ AddsOfSection sections.Other value before after = ⊥
 abbrev pub AddsSection : List ℕ → Data → ConfigView → ConfigView → Type 0
 AddsSection name = AddsOfSection (section_of name)
 
--- a tree stands for this configuration
+-- a tree reads as this configuration
 abbrev pub IsConfiguration : Data → ConfigView → Type 0
 IsConfiguration tree config = BuildsFrom AddsSection tree plain_config config

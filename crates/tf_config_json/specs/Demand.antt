@@ -13,12 +13,12 @@ use Rattle.tf_config_refusal.specs.declared.refusal.Refusal.{Refusal}
 pub data Demand : Type 0 where
   -- nothing is allowed at the place
   nothing_fits : Demand
-  -- a condition on what stands at the place
+  -- a condition on the value at the place
   holds : Bool → Demand
-  -- what is demanded of a part of an expression
+  -- a demand on a part of an expression
   of_expression : expr.Demand → Demand
 
--- what there is to check, in walk order
+-- the checks, in walk order
 abbrev pub Checks : Type 0
 Checks = List (Check Demand)
 
@@ -35,7 +35,7 @@ IsMet nothing_fits = ⊥
 IsMet (holds condition) = IsTrue condition
 IsMet (of_expression demand) = expr.IsMet demand
 
--- nothing is wrong
+-- all checks are met
 abbrev pub AreMet : Checks → Type 0
 AreMet = AllMet IsMet
 
@@ -49,25 +49,25 @@ Fails nothing_fits way = way ≡ bad_shape
 Fails (holds condition) way = (condition ≡ false) × (way ≡ bad_shape)
 Fails (of_expression demand) way = (cause : ExprCause) × expr.Fails demand cause × (way ≡ way_of cause)
 
--- The first fault of some checks is what is told, or there was no memory.
+-- The refusal is the first fault of some checks, or out of memory.
 abbrev pub RefusesBy : {D : Type 0} → (D → Type 0) → (D → Way → Type 0) → List (Check D) → RefusalView → Type 0
 RefusesBy IsMet Fails checks no_memory = Unit {0}
 RefusesBy IsMet Fails checks workers = ⊥
 RefusesBy IsMet Fails checks (fault code place detail) = IsFirst IsMet Fails place (code, detail) checks
 
--- the same of what the format demands
+-- the refusal is the first fault of checks of the format, or out of memory
 abbrev pub Refuses : Checks → RefusalView → Type 0
 Refuses = RefusesBy IsMet Fails
 
--- An answer that is fine where something holds: that does, or the first fault of some checks is told.
+-- A result that is fine if `Holds` does. An error is the first fault of some checks.
 abbrev pub FineOrRefuses : {T : Type 0} → Type 0 → Checks → Result T Refusal → Type 0
 FineOrRefuses Holds checks answer = MatchResult answer (λ _. Holds) (λ refusal. Refuses checks (refusal_of refusal))
 
--- An answer that only judges: all checks are met, or the first fault is told.
+-- A result that only judges: all checks are met, or the error is the first fault.
 abbrev pub Judges : {T : Type 0} → Checks → Result T Refusal → Type 0
 Judges checks = FineOrRefuses (AreMet checks) checks
 
--- a fault at the place, or there was no memory to say so
+-- a fault at the place, or memory ran out for the report
 abbrev pub TellsAt : List ℕ → Way → RefusalView → Type 0
 TellsAt place way no_memory = Unit {0}
 TellsAt place way workers = ⊥

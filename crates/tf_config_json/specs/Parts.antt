@@ -1,4 +1,4 @@
--- The parts of the format that hold no properties of their own: what is demanded of each, and what it says.
+-- The parts of the format that have no properties of their own: the checks of each, and what it says.
 use Rattle.std.specs.Prelude.{◌≡◌, ℕ, ◌+◌, Bool, IsTrue, is_some, Option, Some, List, [], ◌∷◌, ◌++◌, MatchResult, Result, ⊤}
 use Rattle.std.specs.Fmt.{decimal}
 use Rattle.serde_json.specs.Data.{Data, null, boolean, number, string, array, object, Items, no_items, item, Members, no_members, member}
@@ -22,15 +22,15 @@ use Rattle.tf_config_json.specs.Words.{addr_in, type_in}
 abbrev pub wrong : List (List ℕ) → Checks
 wrong place = demanded place nothing_fits
 
--- what is demanded of what stands at a place
+-- the checks of the value at a place
 abbrev pub PartChecks : Type 0
 PartChecks = List (List ℕ) → Data → Checks
 
--- What says something has no fault.
+-- A part that says something has no fault.
 abbrev pub IsPartSound : {A : Type 0} → (Data → A → Type 0) → PartChecks → Type 0
 IsPartSound {A} Says checks = (place : List (List ℕ)) (value : Data) (said : A) → Says value said → AreMet (checks place value)
 
--- What is read at a place is what stands there, or the first fault in it is told.
+-- The result is what the value at a place says, or the error is the first fault in it.
 abbrev pub Reads : {A T : Type 0} → (Data → A → Type 0) → PartChecks → (T → A) → List (List ℕ) → Data → Result T Refusal → Type 0
 Reads Says checks out_view place value answer = MatchResult answer (λ read. Says value (out_view read)) (λ refusal. Refuses (checks place value) (refusal_of refusal))
 
@@ -56,7 +56,7 @@ flag_checks place _ = wrong place
 abbrev pub IsFlag : Data → Bool → Type 0
 IsFlag value flag = value ≡ boolean flag
 
--- a text by which something is found
+-- a text that `find` accepts
 abbrev pub found_checks : {A : Type 0} → (List ℕ → Option A) → PartChecks
 found_checks find place (string text) = demanded place (holds (is_some (find text)))
 found_checks find place _ = wrong place
@@ -74,8 +74,8 @@ NamesType = Finds type_in
 
 -- ---- literal values
 
--- Each number in a tree at a place, in the elements of an array from a position on, and in members, is held as a
--- whole number of 64 signed bits. Texts are themselves.
+-- Each number in a tree at a place, in the elements of an array from a position on, and in members, is held as a whole
+-- number of 64 signed bits. Texts aren't templates.
 abbrev mutual
   pub number_checks : List (List ℕ) → Data → Checks
   number_checks place null = []
@@ -93,7 +93,7 @@ abbrev mutual
   member_number_checks place no_members = []
   member_number_checks place (member name value members) = number_checks (name ∷ place) value ++ member_number_checks place members
 
--- a literal value: its numbers are whole, and then it is within the limits of weight and depth
+-- a literal value: first its numbers have to be whole, then it has to be within the limits of weight and depth
 abbrev pub literal_checks : PartChecks
 literal_checks place value = number_checks place value ++ demanded place (holds (is_within (tree_from value)))
 
@@ -102,16 +102,16 @@ IsLiteral value tree = (value_from value ≡ Some tree) × IsWithinLimits tree
 
 -- ---- arrays
 
--- what is demanded of the element at a position of the array at a place
+-- the checks of the element at a position of the array at a place
 abbrev pub element_checks : PartChecks → List (List ℕ) → ℕ → Data → Checks
 element_checks checks place position value = checks (decimal position ∷ place) value
 
--- element after element
+-- the checks of an array: those of one element after another
 abbrev pub array_checks : PartChecks → PartChecks
 array_checks checks place (array items) = each_item (element_checks checks place) 0 items
 array_checks checks place _ = wrong place
 
--- each element says what stands at its place in a list
+-- each element says the list's element at the same position
 abbrev pub EachSays : {A : Type 0} → (Data → A → Type 0) → Items → List A → Type 0
 EachSays Says no_items [] = ⊤
 EachSays Says (item value items) (x ∷ xs) = Says value x × EachSays Says items xs

@@ -15,15 +15,15 @@ use Rattle.tf_config_refusal.specs.Refusal.{bare, RefusalView, no_memory, worker
 abbrev pub IsTree : List ℕ → Data → Type 0
 IsTree bytes tree = IsUtf8 bytes × (read bytes ≡ Some tree)
 
--- the size of a configuration, in bytes
+-- the largest size of a configuration, in bytes
 abbrev pub max_bytes : ℕ
 max_bytes = 4194304
 
--- how many variables, locals, outputs and resource blocks there may be, of each
+-- the most variables, locals, outputs and resource blocks, of each, that a configuration may have
 abbrev pub max_declared : ℕ
 max_declared = 2000
 
--- there are no more of each than there may be
+-- none of these counts exceeds the limit
 abbrev pub IsWithinCounts : ConfigView → Type 0
 IsWithinCounts c =
     (length c.variables ≤ max_declared) × (length (names_in c.locals) ≤ max_declared) × (length (names_in c.outputs) ≤ max_declared) × (length c.blocks ≤ max_declared)
@@ -32,17 +32,17 @@ IsWithinCounts c =
 abbrev pub whole_fault : Code → RefusalView
 whole_fault code = fault code (dotted whole_file) bare
 
--- A file's text is no tree: 1, NotJson.
+-- A file's text isn't a tree: 1, NotJson.
 abbrev pub IsNotJsonAt : List (List ℕ) → List ℕ → RefusalView → Type 0
 IsNotJsonAt file bytes refusal = ((tree : Data) → ¬ IsTree bytes tree) × (refusal ≡ fault code.NotJson (dotted file) bare)
 
--- That is told, or that there was no memory.
+-- The refusal reports that, or out of memory.
 abbrev pub TellsNotJson : List (List ℕ) → List ℕ → RefusalView → Type 0
 TellsNotJson file bytes no_memory = Unit {0}
 TellsNotJson file bytes workers = ⊥
 TellsNotJson file bytes (fault code place detail) = IsNotJsonAt file bytes (fault code place detail)
 
--- the same of a configuration
+-- a configuration's text isn't a tree
 abbrev pub IsNotJson : List ℕ → RefusalView → Type 0
 IsNotJson = IsNotJsonAt whole_file
 
@@ -55,8 +55,8 @@ abbrev pub HasTooMany : List ℕ → RefusalView → Type 0
 HasTooMany bytes refusal =
     (tree : Data) × IsTree bytes tree × (config : ConfigView) × IsConfiguration tree config × (¬ IsWithinCounts config) × (refusal ≡ whole_fault code.Limit)
 
--- What is told of a text, in the order of tests: it is longer than it may be, 14; it is no JSON; it has a fault in its
--- shape; there is too much of something in it. That there was no memory may be told of any text.
+-- The refusal of a text, in the order of the checks: it is too long (14), it isn't JSON, it has a fault in its shape,
+-- or it has too much of something. Out of memory may be the refusal of any text.
 abbrev pub IsRefused : List ℕ → RefusalView → Type 0
 IsRefused bytes no_memory = Unit {0}
 IsRefused bytes workers = ⊥

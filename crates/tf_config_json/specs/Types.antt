@@ -1,4 +1,4 @@
--- Which values a type takes, and what it makes of them.
+-- The values that a type takes, and their conversion to it.
 use Rattle.std.specs.Prelude.{ℕ, Bool, true, false, ◌&&◌, is_some, if◌then◌else◌, Option, Some, None, List}
 use Rattle.tf_config_data.specs.declared.variable.Element.{Element}
 use Rattle.tf_config_data.specs.declared.variable.Element.TheVariants as elements
@@ -28,7 +28,7 @@ abbrev pub takes_entries : Element → Entries → Bool
 takes_entries e no_entries = true
 takes_entries e (entry name t es) = takes e t && takes_entries e es
 
--- A list fits `list(T)` where each of its values fits `T`, and a map `map(T)` in the same way.
+-- A list fits `list(T)` if each of its values fits `T`, and a map fits `map(T)` in the same way.
 abbrev pub fits : VariableType → Tree → Bool
 fits (types.One e) t = takes e t
 fits (types.List e) null = true
@@ -38,12 +38,12 @@ fits (types.Map e) null = true
 fits (types.Map e) (map es) = takes_entries e es
 fits (types.Map e) t = false
 
--- the text, where there is one
+-- the text, if there is one, or else the value
 abbrev pub text_or : Tree → Option (List ℕ) → Tree
 text_or t None = t
 text_or t (Some s) = text s
 
--- As a `string`, what has a text is that text. Every other type leaves a value as it is.
+-- As a `string`, a value that has a text becomes that text. Every other type leaves a value as it is.
 abbrev pub element_as : Element → Tree → Tree
 element_as elements.String t = text_or t (scalar_text t)
 element_as e t = t
@@ -56,7 +56,7 @@ abbrev pub entries_as : Element → Entries → Entries
 entries_as e no_entries = no_entries
 entries_as e (entry name t es) = entry name (element_as e t) (entries_as e es)
 
--- the same inside lists and maps
+-- a value converted to a type, inside lists and maps too
 abbrev pub value_as : VariableType → Tree → Tree
 value_as (types.One e) t = element_as e t
 value_as (types.List e) (list ts) = list (items_as e ts)
@@ -64,6 +64,6 @@ value_as (types.List e) t = t
 value_as (types.Map e) (map es) = map (entries_as e es)
 value_as (types.Map e) t = t
 
--- what a type makes of a value; none where the value doesn't fit
+-- a value converted to a type, or `None` if the value doesn't fit
 abbrev pub fitted : VariableType → Tree → Option Tree
 fitted value_type t = if fits value_type t then Some (value_as value_type t) else None

@@ -1,4 +1,4 @@
--- The value of each declared variable, and what is demanded of them.
+-- The value of each declared variable, and the checks of these values.
 use Rattle.std.specs.Prelude.{◌≡◌, ℕ, Bool, false, is_some, Option, Some, None, option_and_then, List, [], ◌∷◌, ◌++◌, IsTrue, codes, ⊤}
 use Rattle.serde_json.specs.Data.{Data}
 use Rattle.serde_json.specs.Find.{get}
@@ -12,17 +12,18 @@ use Rattle.tf_value_json.specs.Json.{value_from}
 use Rattle.tf_value_data.specs.Tree.{Tree, Entries, no_entries, entry}
 use Rattle.tf_config_json.specs.Types.{fitted}
 
--- what a variables file has at a name; without a file there is nothing
+-- the value of a name in a variables file, or `None` if there is no file or it doesn't have the name
 abbrev pub given : Option Data → List ℕ → Option Data
 given None name = None
 given (Some tree) name = get name tree
 
--- The file's value is taken where it has one, `null` too, else the default.
+-- The file's value is taken if it has one, even `null`, and else the default.
 abbrev pub taken_of : Option Data → Option Tree → Option Tree
 taken_of (Some value) default = value_from value
 taken_of None default = default
 
--- A variable's value is what its type makes of the one that is taken; none where there is none, or it doesn't fit.
+-- A variable's value is the taken one converted to the variable's type, or `None` if there is no value or it doesn't
+-- fit.
 abbrev pub value_for : Option Data → VariableView → Option Tree
 value_for file v = option_and_then (fitted v.value_type) (taken_of (given file v.name) v.default)
 
@@ -32,14 +33,14 @@ AreValues file [] no_entries = ⊤
 AreValues file (v ∷ vs) (entry name value values) = (name ≡ v.name) × (value_for file v ≡ Some value) × AreValues file vs values
 AreValues file _ _ = ⊥
 
--- ---- what is demanded
+-- ---- the checks
 
--- what the file gives a name is a literal
+-- the file's value of a name is a literal
 abbrev pub literal_at : List ℕ → Option Data → Checks
 literal_at name None = []
 literal_at name (Some value) = literal_checks (name ∷ []) value
 
--- what is demanded of the file: that what it gives the declared variables are literals; it may have other names
+-- the checks of the file: its values of the declared variables are literals; it may have other names
 abbrev pub file_checks : Option Data → List VariableView → Checks
 file_checks file [] = []
 file_checks file (v ∷ vs) = literal_at v.name (given file v.name) ++ file_checks file vs
@@ -48,7 +49,7 @@ file_checks file (v ∷ vs) = literal_at v.name (given file v.name) ++ file_chec
 abbrev pub variable_place : List ℕ → List (List ℕ)
 variable_place name = name ∷ codes "var" ∷ []
 
--- what is demanded of a variable: that it has a value
+-- the check of a variable: it has a value
 abbrev pub value_check : Option Data → VariableView → List (Check Bool)
 value_check file v = demanded (variable_place v.name) (is_some (value_for file v))
 
@@ -56,10 +57,10 @@ abbrev pub value_checks : Option Data → List VariableView → List (Check Bool
 value_checks file [] = []
 value_checks file (v ∷ vs) = value_check file v ++ value_checks file vs
 
--- a variable that has no value is told as 10, BadArgument
+-- a variable without a value is refused with 10, BadArgument
 abbrev pub HasNone : Bool → Way → Type 0
 HasNone has way = (has ≡ false) × (way ≡ (code.BadArgument, bare))
 
--- The first variable without a value is told, or there was no memory.
+-- The refusal reports the first variable without a value, or out of memory.
 abbrev pub RefusesValues : List (Check Bool) → RefusalView → Type 0
 RefusesValues = RefusesBy IsTrue HasNone

@@ -11,7 +11,7 @@ use Rattle.tf_config_refusal.specs.declared.code.Code.TheVariants as code
 use Rattle.tf_config_refusal.specs.Refusal.{RefusalView, no_memory, workers, fault, bare}
 use Rattle.tf_config_json.specs.Values.{file_checks, value_checks, RefusesValues}
 
--- the size of a variables file, in bytes
+-- the largest size of a variables file, in bytes
 abbrev pub max_bytes : ℕ
 max_bytes = 4194304
 
@@ -22,11 +22,11 @@ the_file = codes "variables" ∷ []
 abbrev pub is_object : Data → Bool
 is_object tree = is_some (as_object tree)
 
--- The text is one object, no longer than it may be.
+-- The text is one object, within the size limit.
 abbrev pub IsFile : List ℕ → Data → Type 0
 IsFile bytes tree = (length bytes ≤ max_bytes) × IsTree bytes tree × IsTrue (is_object tree)
 
--- where there is a text, the file is its tree
+-- if there is a text, the file is its tree
 abbrev pub IsFileOf : Option (List ℕ) → Option Data → Type 0
 IsFileOf None None = Unit {0}
 IsFileOf (Some bytes) (Some tree) = IsFile bytes tree
@@ -36,20 +36,21 @@ IsFileOf _ _ = ⊥
 abbrev pub file_fault : Code → RefusalView
 file_fault code = fault code (dotted the_file) bare
 
--- What is told of a text that is no file: it is longer than it may be, 14; it is no JSON, 1; it is no object, 2.
+-- The refusal of a text that isn't a variables file: it is too long (14), it isn't JSON (1), or it isn't an object (2).
 abbrev pub IsNoFile : List ℕ → RefusalView → Type 0
 IsNoFile bytes refusal =
     ((max_bytes < length bytes) × (refusal ≡ file_fault code.Limit))
     ⊎ ((length bytes ≤ max_bytes)
     × (IsNotJsonAt the_file bytes refusal ⊎ ((tree : Data) × IsTree bytes tree × (is_object tree ≡ false) × (refusal ≡ file_fault code.BadShape))))
 
--- That is told, or that there was no memory.
+-- The refusal reports that, or out of memory.
 abbrev pub TellsNoFile : List ℕ → RefusalView → Type 0
 TellsNoFile bytes no_memory = Unit {0}
 TellsNoFile bytes workers = ⊥
 TellsNoFile bytes (fault code place detail) = IsNoFile bytes (fault code place detail)
 
--- What is told of a file and declared variables: the first fault in the file, else the first variable without a value.
+-- The refusal of a file and declared variables: the first fault in the file, or else the first variable without a
+-- value.
 abbrev pub IsFaulty : Option Data → List VariableView → RefusalView → Type 0
 IsFaulty file vs refusal = Refuses (file_checks file vs) refusal ⊎ (AreMet (file_checks file vs) × RefusesValues (value_checks file vs) refusal)
 
@@ -58,12 +59,12 @@ TellsFaulty file vs no_memory = Unit {0}
 TellsFaulty file vs workers = ⊥
 TellsFaulty file vs (fault code place detail) = IsFaulty file vs (fault code place detail)
 
--- what is told of a text, where there is one, in the order of tests
+-- the refusal of a text, if there is one, in the order of the checks
 abbrev pub IsRefusedAs : Option (List ℕ) → List VariableView → RefusalView → Type 0
 IsRefusedAs None vs refusal = IsFaulty None vs refusal
 IsRefusedAs (Some bytes) vs refusal = IsNoFile bytes refusal ⊎ ((tree : Data) × IsFile bytes tree × IsFaulty (Some tree) vs refusal)
 
--- That there was no memory may be told of any text.
+-- Out of memory may be the refusal of any text.
 abbrev pub IsRefused : Option (List ℕ) → List VariableView → RefusalView → Type 0
 IsRefused text vs no_memory = Unit {0}
 IsRefused text vs workers = ⊥

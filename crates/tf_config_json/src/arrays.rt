@@ -19,7 +19,7 @@ use std::alloc::{AllocError, Global};
 use tf_config_address::{ResourceAddr, is_name};
 use tf_config_refusal::{Path, Refusal};
 
-/// What one kind of array holds.
+/// A kind of array element.
 pub(crate) trait Listed: Drop + Sized {
     ghost OutView: { Type 0 };
 
@@ -29,18 +29,18 @@ pub(crate) trait Listed: Drop + Sized {
 
     ghost checks: { PartChecks };
 
-    /// What an element says.
+    /// Reads an element.
     ///
     /// # Errors
     ///
-    /// The first fault in it, in walk order, or `OutOfMemory`.
+    /// Fails with the first fault in it, in walk order, or with `OutOfMemory`.
     fn read(part: &Part<'_>) -> Result<Self, Refusal>
         ensures ok { IfOk result (λ said. says (view part.now.value.now) (out_view said)) }
         ensures fault { IfErr result (λ refusal.
             Refuses (checks (place_of part.now.path.now) (view part.now.value.now)) (refusal_of refusal)) };
 }
 
-/// What the elements of an array say, in order. Anything but an array is refused with 2.
+/// Reads the elements of an array, in order. Refuses anything but an array with 2.
 pub(crate) fn read_array<E: Listed>(part: &Part<'_>) -> Result<Vec<E>, Refusal>
     requires sound { IsPartSound E.says E.checks }
     ensures ok { IfOk result (λ all.
@@ -117,7 +117,7 @@ impl Listed for ResourceAddr {
     }
 }
 
-/// The resource whose address a text is.
+/// Returns the resource whose address is the text, or `None` if the text isn't an address.
 #[tactic(auto, using(crate::proofs::Addresses::no_address))]
 fn addr_named(alloc: Global, text: &str) -> Result<Option<ResourceAddr>, AllocError>
     ensures { IfOk result (λ addr. option_map addr_of addr ≡ addr_in text.now) }

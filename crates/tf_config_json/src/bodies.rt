@@ -21,7 +21,7 @@ use tf_config_data::{Block, Element, Lifecycle, Repetition, Variable, VariableTy
 use tf_config_refusal::Refusal;
 use tf_expr_syntax::Expr;
 
-/// The body of a variable.
+/// Reads the body of a variable.
 #[tactic(auto, using(crate::proofs::Sound::variable_properties_sound))]
 pub(crate) fn read_variable(part: &Part<'_>) -> Result<Variable, Refusal>
     ensures { Reads IsVariableBody (object_checks variable_property_checks) variable_body (place_of part.now.path.now) (view part.now.value.now) result }
@@ -34,7 +34,7 @@ pub(crate) fn read_variable(part: &Part<'_>) -> Result<Variable, Refusal>
     Ok(variable)
 }
 
-/// An expression at its name: a local value, or an argument of a block.
+/// Reads an expression and adds it under its name: a local value, or an argument of a block.
 pub(crate) fn add_expression(
     name: &str,
     part: &Part<'_>,
@@ -50,7 +50,7 @@ pub(crate) fn add_expression(
     Ok(())
 }
 
-/// The body of an output, which has a value.
+/// Reads the body of an output, which has to have a value.
 #[tactic(auto, using(crate::proofs::Sound::output_properties_sound))]
 pub(crate) fn read_output(part: &Part<'_>) -> Result<Expr, Refusal>
     ensures { Reads IsOutputBody output_body_checks tree_of (place_of part.now.path.now) (view part.now.value.now) result }
@@ -64,7 +64,7 @@ pub(crate) fn read_output(part: &Part<'_>) -> Result<Expr, Refusal>
     }
 }
 
-/// The body of a resource, which has no `count` beside a `for_each`.
+/// Reads the body of a resource, which can't have both `count` and `for_each`.
 #[tactic(auto, using(crate::proofs::Sound::block_properties_sound))]
 pub(crate) fn read_body(part: &Part<'_>) -> Result<Block, Refusal>
     ensures { Reads IsBlockBody block_body_checks block_body (place_of part.now.path.now) (view part.now.value.now) result }
@@ -80,7 +80,7 @@ pub(crate) fn read_body(part: &Part<'_>) -> Result<Block, Refusal>
     Ok(block)
 }
 
-/// What stands at `lifecycle`.
+/// Reads the value of `lifecycle`.
 #[tactic(auto, using(crate::proofs::Sound::lifecycle_properties_sound))]
 pub(crate) fn read_lifecycle(part: &Part<'_>) -> Result<Lifecycle, Refusal>
     ensures { Reads IsLifecycle (object_checks lifecycle_property_checks) lifecycle_of (place_of part.now.path.now) (view part.now.value.now) result }
@@ -90,7 +90,7 @@ pub(crate) fn read_lifecycle(part: &Part<'_>) -> Result<Lifecycle, Refusal>
     Ok(lifecycle)
 }
 
-/// Where `lifecycle` says nothing, nothing is asked for.
+/// Returns an empty `lifecycle`, which asks for nothing.
 fn plain_lifecycle(alloc: Global) -> Lifecycle
     ensures { lifecycle_of result ≡ plain_lifecycle }
 {

@@ -15,10 +15,10 @@ use std::alloc::Global;
 use tf_config_address::is_name;
 use tf_config_refusal::{Code, Detail, Path, Refusal};
 
-/// What a configuration is called as a file.
+/// The name of the configuration's file in refusals.
 pub(crate) const CONFIGURATION: &str = "configuration";
 
-/// A fault at a place, or that there is no memory to write the place out.
+/// Builds the refusal of a fault at a place, or of out of memory if the place can't be written out.
 pub(crate) fn fault_at(alloc: Global, path: &Path<'_>, code: Code, detail: Detail) -> Refusal
     ensures { TellsAt (dotted (place_of path.now)) (code, detail_of detail) (refusal_of result) }
 {
@@ -32,7 +32,7 @@ pub(crate) fn fault_at(alloc: Global, path: &Path<'_>, code: Code, detail: Detai
     }
 }
 
-/// A fault of a whole file, by what it is called, which has nothing behind its name.
+/// Builds the refusal of a fault of a whole file, by the file's name, without detail.
 pub(crate) fn file_fault(alloc: Global, file: &str, code: Code) -> Refusal
     ensures { TellsAt (dotted (file.now ∷ [])) (code, bare) (refusal_of result) }
 {
@@ -40,14 +40,14 @@ pub(crate) fn file_fault(alloc: Global, file: &str, code: Code) -> Refusal
     fault_at(alloc, &path, code, Detail::Bare)
 }
 
-/// A fault of the whole configuration.
+/// Builds the refusal of a fault of the whole configuration.
 pub(crate) fn whole_file_fault(alloc: Global, code: Code) -> Refusal
     ensures { TellsAt (dotted whole_file) (code, bare) (refusal_of result) }
 {
     file_fault(alloc, CONFIGURATION, code)
 }
 
-/// Nothing is allowed at the place.
+/// Builds the refusal of anything that isn't allowed at the place.
 pub(crate) fn bad_shape(alloc: Global, path: &Path<'_>) -> Refusal
     ensures { TellsAt (dotted (place_of path.now)) bad_shape (refusal_of result) }
 {
@@ -74,7 +74,7 @@ pub(crate) fn demand_type_name(alloc: Global, path: &Path<'_>, text: &str) -> Re
     }
 }
 
-/// The number is held as a whole number of 64 bits with a sign.
+/// Checks that a number is held as a whole number of 64 bits with a sign.
 pub(crate) fn demand_whole(alloc: Global, path: &Path<'_>, number: &Number) -> Result<(), Refusal>
     ensures { Judges (demanded (place_of path.now) (of_expression (a_whole_number (number_view number.now)))) result }
 {
@@ -84,7 +84,7 @@ pub(crate) fn demand_whole(alloc: Global, path: &Path<'_>, number: &Number) -> R
     }
 }
 
-/// The body of a resource has no `count` beside a `for_each`.
+/// Checks that the body of a resource doesn't have both `count` and `for_each`.
 pub(crate) fn demand_one_repetition(
     alloc: Global,
     path: &Path<'_>,
@@ -99,7 +99,7 @@ pub(crate) fn demand_one_repetition(
     }
 }
 
-/// The body of an output has a value.
+/// Checks that the body of an output has a value.
 pub(crate) fn demand_value(alloc: Global, path: &Path<'_>, body: &Value) -> Result<(), Refusal>
     ensures { Judges (demanded (place_of path.now) (holds (has (codes "value") (view body.now)))) result }
 {

@@ -1,4 +1,4 @@
-//! What the members of each kind of object say.
+//! The members of each kind of object, and how they are read.
 
 ghost use Rattle.std.specs.Prelude.{List, Option, option_map};
 ghost use Rattle.tf_config_json.specs.Config.{block_body, variable_body, BlockBody, Blocks, VariableBody};
@@ -49,7 +49,7 @@ impl Members for Sections {
     }
 }
 
-/// The members at `variable`: bodies below their names.
+/// The members at `variable`: bodies under their names.
 #[derive(Drop)]
 struct Variables;
 
@@ -110,7 +110,7 @@ impl Members for VariableProperties {
     }
 }
 
-/// The members at `locals`: expressions at their names.
+/// The members at `locals`: expressions under their names.
 #[derive(Drop)]
 struct Locals;
 
@@ -138,7 +138,7 @@ impl Members for Locals {
     }
 }
 
-/// The members at `output`: bodies below their names.
+/// The members at `output`: bodies under their names.
 #[derive(Drop)]
 struct OutputsSection;
 
@@ -195,7 +195,7 @@ impl Members for OutputProperties {
     }
 }
 
-/// The members at `resource`: below types names, and below those bodies.
+/// The members at `resource`: under types there are names, and under those there are bodies.
 #[derive(Drop)]
 struct Types;
 
@@ -221,7 +221,7 @@ impl Members for Types {
     }
 }
 
-/// The members of a type: bodies below their names.
+/// The members of a type: bodies under their names.
 #[derive(Drop)]
 struct Resources<'a> {
     type_name: &'a str,

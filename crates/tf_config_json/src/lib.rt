@@ -1,11 +1,11 @@
 //! Reading a configuration, and the values of its input variables.
 //!
-//! A configuration is one JSON object in Terraform's JSON syntax. `read` gives what it declares, or the first fault in the
-//! order of tests: the file's size, JSON, the walk over the properties in byte order, the limits on variables, locals,
-//! outputs and resource blocks. Whether its names are known is judged after that, in `tf_config_names`. `read_vars` gives the
-//! value of each declared variable, which is what the variables file gives it, else its default, as its type has it; or the
-//! first fault in the order of tests: the file's size, JSON, its literals in byte order of names, the first variable without
-//! a value that fits.
+//! A configuration is one JSON object in Terraform's JSON syntax. `read` returns the configuration, or the first fault
+//! in the order of the checks: the file's size, JSON, the walk over the properties in byte order, the limits on
+//! variables, locals, outputs and resource blocks. `tf_config_names` checks afterwards whether its names are known.
+//! `read_vars` returns the value of each declared variable, converted to its type: the value in the variables file, or
+//! else the default. Or it returns the first fault in the order of the checks: the file's size, JSON, its literals in
+//! byte order of names, the first variable without a value that fits.
 #![tactic(auto)]
 
 mod arrays;

@@ -1,4 +1,4 @@
-//! Texts, truth values, types, expressions and literal values, as they stand at a property.
+//! Texts, truth values, types, expressions and literal values, as values of properties.
 
 ghost use Rattle.serde_json.specs.View.{items_view, members_view, view};
 ghost use Rattle.std.specs.Prelude.{IfErr, IfOk, List, OnOk, ℕ};
@@ -22,7 +22,7 @@ use tf_expr_syntax::Expr;
 use tf_value_data::Value;
 use tf_value_json::{JsonFault, from_json};
 
-/// An expression.
+/// Reads an expression.
 pub(crate) fn read_expression(part: &Part<'_>) -> Result<Expr, Refusal>
     ensures { Reads IsExpr expression_checks tree_of (place_of part.now.path.now) (view part.now.value.now) result }
 {
@@ -30,7 +30,7 @@ pub(crate) fn read_expression(part: &Part<'_>) -> Result<Expr, Refusal>
     Ok(expr)
 }
 
-/// Any text, which says nothing to the engine.
+/// Checks that a part is a text. The engine ignores its contents.
 pub(crate) fn demand_text(part: &Part<'_>) -> Result<(), Refusal>
     ensures ok { OnOk result ((text : List ℕ) × IsText (view part.now.value.now) text) }
     ensures fault { IfErr result (λ refusal.
@@ -42,7 +42,7 @@ pub(crate) fn demand_text(part: &Part<'_>) -> Result<(), Refusal>
     }
 }
 
-/// A truth value.
+/// Reads a truth value.
 pub(crate) fn read_flag(part: &Part<'_>) -> Result<bool, Refusal>
     ensures { Reads IsFlag flag_checks (λ flag. flag) (place_of part.now.path.now) (view part.now.value.now) result }
 {
@@ -52,7 +52,7 @@ pub(crate) fn read_flag(part: &Part<'_>) -> Result<bool, Refusal>
     }
 }
 
-/// The type of a variable.
+/// Reads the type of a variable.
 pub(crate) fn read_type(part: &Part<'_>) -> Result<VariableType, Refusal>
     ensures { Reads NamesType type_text_checks (λ value_type. value_type) (place_of part.now.path.now) (view part.now.value.now) result }
 {
@@ -65,12 +65,12 @@ pub(crate) fn read_type(part: &Part<'_>) -> Result<VariableType, Refusal>
     }
 }
 
-/// A literal value: its texts are no templates, and it is within the limits of weight and depth.
+/// Reads a literal value. Its texts aren't templates, and it has to be within the limits of weight and depth.
 ///
 /// # Errors
 ///
-/// 2 at the first number, in walk order, that isn't held as a whole number of 64 bits with a sign; else at the
-/// value itself, where it is beyond the limits; or `OutOfMemory`.
+/// Fails with 2 at the first number, in walk order, that isn't held as a whole number of 64 bits with a sign. Otherwise
+/// fails with 2 at the value itself if it exceeds the limits. Or fails with `OutOfMemory`.
 pub(crate) fn read_literal<'a>(
     alloc: Global,
     path: &'a Path<'a>,
@@ -90,7 +90,7 @@ pub(crate) fn read_literal<'a>(
     }
 }
 
-/// Each number is held as a whole number of 64 bits with a sign.
+/// Checks that each number is held as a whole number of 64 bits with a sign.
 #[cycle(numbers)]
 fn demand_numbers<'a>(alloc: Global, path: &'a Path<'a>, json: &'a Json) -> Result<(), Refusal>
     ensures { Judges (number_checks (place_of path.now) (view json.now)) result }

@@ -13,20 +13,20 @@ use serde_json::{Map, Value};
 use std::alloc::Global;
 use tf_config_refusal::{Path, Refusal};
 
-/// What stands at a place of the tree, with the memory for what it says.
+/// A value at a place of the tree, with the allocator for what is read from it.
 #[derive(Clone, Copy)]
 pub(crate) struct Part<'a> {
-    /// The memory.
+    /// The allocator.
     pub(crate) alloc: Global,
     /// The place.
     pub(crate) path: &'a Path<'a>,
-    /// What stands there.
+    /// The value.
     pub(crate) value: &'a Value,
 }
 
-/// What the members of one kind of object say, and what is demanded of them.
+/// A kind of object: how its members are read, and what is demanded of them.
 pub(crate) trait Members {
-    /// What they say together.
+    /// The value that the members build together.
     type Out;
 
     ghost OutView: { Type 0 };
@@ -37,17 +37,17 @@ pub(crate) trait Members {
 
     ghost checks: { Self → PropertyChecks };
 
-    /// Adds what the member of a name says.
+    /// Reads a member and adds it to the value.
     ///
     /// # Errors
     ///
-    /// The first fault in it, in walk order, or `OutOfMemory`.
+    /// Fails with the first fault in it, in walk order, or with `OutOfMemory`.
     fn add(&self, name: &str, part: &Part<'_>, said: &mut Self::Out) -> Result<(), Refusal>
         ensures { FineOrRefuses (adds self.now name.now (view part.now.value.now) (out_view said.old) (out_view said.new))
             (checks self.now (place_of part.now.path.now) name.now (view part.now.value.now)) result };
 }
 
-/// Adds what the members of an object say, in byte order of their names. Anything but an object is refused with 2.
+/// Reads and adds the members of an object, in byte order of their names. Refuses anything but an object with 2.
 pub(crate) fn add_members<M: Members>(
     members: &M,
     part: &Part<'_>,
@@ -63,7 +63,7 @@ pub(crate) fn add_members<M: Members>(
     }
 }
 
-/// The same of an object's map.
+/// Reads and adds each member of an object's map, in byte order of their names.
 pub(crate) fn add_each_member<'a, M: Members>(
     members: &M,
     alloc: Global,

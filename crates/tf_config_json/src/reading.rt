@@ -27,30 +27,29 @@ const MAX_BYTES: usize = 4_194_304;
 const MAX_DECLARED: usize = 2_000;
 
 /// Reads a configuration: the bytes of one JSON object with the properties `variable`, `locals`, `output` and
-/// `resource`, as Terraform's JSON syntax has them. In an expression texts are templates; a variable's default is
-/// literal.
+/// `resource`, as in Terraform's JSON syntax. Texts in an expression are templates. A variable's default is literal.
 ///
 /// # Errors
 ///
-/// The first of these in the order of tests, or `OutOfMemory`.
+/// Fails with the first of these, in the order of the checks, or with `OutOfMemory`.
 /// - 14 at `configuration`: more than 4,194,304 bytes.
-/// - 1 at `configuration`: no JSON as `serde_json` reads it, which takes UTF-8 alone.
-/// - 2, 3 or 14, at the first fault in a walk that takes properties in byte order, depth first, and a block's
-///   own shape before its parts. The place is the path of names and positions, joined by dots, or
-///   `configuration` where the top is no object. 2 is a property, a block, a name or a number that the format
-///   doesn't allow, and a default beyond the limits of weight and depth. 3 is a text that is no template, with a
-///   byte offset. 14 is a template that is too deep.
+/// - 1 at `configuration`: not JSON as `serde_json` reads it, which accepts only UTF-8.
+/// - 2, 3 or 14, at the first fault in a walk that takes properties in byte order, depth first, and a block's own shape
+///   before its parts. The place is the path of names and positions, joined by dots, or `configuration` if the top
+///   isn't an object. 2 is a property, a block, a name or a number that the format doesn't allow, and a default that
+///   exceeds the limits of weight and depth. 3 is a text that isn't a template, with a byte offset. 14 is a template
+///   that is too deep.
 /// - 14 at `configuration`: more than 2,000 variables, locals, outputs or resource blocks.
 pub fn read(alloc: Global, bytes: &[u8]) -> Result<Config, Refusal>
-    // The text is a tree, and the tree stands for this configuration.
+    // The text is a tree, and the tree reads as this configuration.
     ensures ok { IfOk result (λ config. (tree : Data) × IsTree bytes.now tree
         × IsConfiguration tree (config_of config)) }
 
-    // No limit is passed.
+    // No limit is exceeded.
     ensures small { IfOk result (λ config. (length bytes.now ≤ max_bytes)
         × IsWithinCounts (config_of config)) }
 
-    // What is told is the first fault, or that there was no memory.
+    // The refusal is the first fault, or out of memory.
     ensures fault { IfErr result (λ refusal. IsRefused bytes.now (refusal_of refusal)) }
 {
     if bytes.len() > MAX_BYTES {
@@ -62,7 +61,7 @@ pub fn read(alloc: Global, bytes: &[u8]) -> Result<Config, Refusal>
     Ok(config)
 }
 
-/// There are no more variables, locals, outputs and blocks than there may be.
+/// Checks the limits on the numbers of variables, locals, outputs and blocks.
 fn demand_counts(alloc: Global, config: &Config) -> Result<(), Refusal>
     ensures ok { OnOk result (IsWithinCounts (config_of config.now)) }
     ensures fault { IfErr result (λ refusal. (¬ IsWithinCounts (config_of config.now))
@@ -87,11 +86,12 @@ fn demand_count(alloc: Global, count: usize) -> Result<(), Refusal>
     }
 }
 
-/// The JSON tree that a file's text is. The file is called by this name in a refusal.
+/// Reads a file's text as a JSON tree. Refusals call the file by this name.
 ///
 /// # Errors
 ///
-/// 1 at the file where the text is no JSON as `serde_json` reads it, which takes UTF-8 alone, or `OutOfMemory`.
+/// Fails with 1 at the file if the text isn't JSON as `serde_json` reads it, which accepts only UTF-8, or with
+/// `OutOfMemory`.
 pub(crate) fn read_tree(alloc: Global, bytes: &[u8], file: &str) -> Result<Value, Refusal>
     ensures ok { IfOk result (λ tree. IsTree bytes.now (view tree)) }
     ensures fault { IfErr result (λ refusal. TellsNotJson (file.now ∷ []) bytes.now (refusal_of refusal)) }

@@ -1,4 +1,4 @@
-//! Which values a type takes, and what it makes of them.
+//! The values that a type takes, and their conversion to it.
 
 ghost use Rattle.std.specs.Prelude.{◌≡◌, IfOk, option_map};
 ghost use Rattle.tf_value_data.specs.Tree.{entries_view, items_view, tree_of};
@@ -9,7 +9,7 @@ use std::collections::BTreeMap;
 use tf_config_data::{Element, VariableType};
 use tf_value_data::{Value, scalar_text};
 
-/// What a type makes of a value; none where the value doesn't fit. Refused only where there is no memory.
+/// Converts a value to a type. Returns `None` if the value doesn't fit. Fails only if memory runs out.
 pub(crate) fn fitted(
     alloc: Global,
     value_type: VariableType,

@@ -23,7 +23,8 @@ use tf_config_data::{Variable, VariableType};
 use tf_config_refusal::{Code, Detail, Path, Refusal};
 use tf_value_data::Value;
 
-/// The value of each variable; the first fault in the file, or else the first variable without a value.
+/// Returns the value of each variable. Fails with the first fault in the file, or else at the first variable without a
+/// value.
 pub(crate) fn read_values(
     alloc: Global,
     file: Option<&Json>,
@@ -43,7 +44,7 @@ pub(crate) fn read_values(
     answer
 }
 
-/// The value that is taken for a variable: the file's, else the default.
+/// Returns the value that is taken for a variable: the file's, or else the default.
 fn read_taken(
     alloc: Global,
     file: Option<&Json>,
@@ -63,7 +64,7 @@ fn read_taken(
     }
 }
 
-/// The literal that a file gives a name.
+/// Reads the literal that a file gives a name.
 fn read_given(alloc: Global, name: &str, json: &Json) -> Result<Value, Refusal>
     ensures literal { IfOk result (λ _. AreMet (literal_checks (name.now ∷ []) (view json.now))) }
     ensures ok { IfOk result (λ value. value_from (view json.now) ≡ Some (tree_of value)) }
@@ -83,7 +84,7 @@ fn given<'a>(file: Option<&'a Json>, name: &str) -> Option<&'a Json>
     }
 }
 
-/// The answer so far, with the value of one more variable where no variable before has none.
+/// Adds the value of one more variable to the result so far, if no variable before lacks a value.
 fn put_value_for(
     alloc: Global,
     answer: Result<BTreeMap<String, Value>, Refusal>,
@@ -106,7 +107,7 @@ fn put_value_for(
     }
 }
 
-/// The values, with that of one more variable: what its type makes of the value that is taken.
+/// Adds the value of one more variable: the value that is taken, converted to the variable's type.
 fn with_value(
     alloc: Global,
     mut values: BTreeMap<String, Value>,

@@ -1,8 +1,8 @@
-//! What holds of values, whatever the file and the variables are.
+//! What holds of values, for any file and any variables.
 
 ghost use Rattle.tf_config_json.specs.VariableLaws.{FaultlessHaveValues, ValuesAreFaultless, ValuesAreOne};
 
-/// Variables have values exactly where nothing is refused in them, and one each at most.
+/// Variables have values exactly if nothing in them is refused, and at most one each.
 pub fn values_are_one()
     ensures one { ValuesAreOne }
     ensures faultless { ValuesAreFaultless }

@@ -23,36 +23,36 @@ use tf_value_data::Value;
 /// The longest variables file that is read, in bytes.
 const MAX_BYTES: usize = 4_194_304;
 
-/// What the variables file is called in a refusal.
+/// The name of the variables file in refusals.
 const FILE: &str = "variables";
 
-/// The value of each variable that a configuration declares: what the variables file gives it, else its default, as
-/// its type has it. The file is one JSON object of names and literal values; a `null` in it is a value, and a name
-/// that isn't declared is ignored, whatever stands there. `string` takes whole numbers and truth values too, as their
-/// texts, inside `list(string)` and `map(string)` as well; null fits every type, inside lists and maps too. A default
-/// in whose place the file has a value needn't fit.
+/// Returns the value of each variable that a configuration declares, converted to its type: the value in the variables
+/// file, or else the default. The file is one JSON object of names and literal values. A `null` in it is a value, and a
+/// name that isn't declared is ignored, whatever its value. `string` also takes whole numbers and truth values, as
+/// their texts, even inside `list(string)` and `map(string)`. Null fits every type, even inside lists and maps. If the
+/// file has a value, the default needn't fit.
 ///
 /// # Errors
 ///
-/// The first of these in the order of tests, or `OutOfMemory`.
+/// Fails with the first of these, in the order of the checks, or with `OutOfMemory`.
 /// - 14 at `variables`: more than 4,194,304 bytes.
-/// - 1 at `variables`: no JSON as `serde_json` reads it.
-/// - 2 at `variables`: no object.
+/// - 1 at `variables`: not JSON as `serde_json` reads it.
+/// - 2 at `variables`: not an object.
 /// - 2 at the first fault in a declared variable's value, by its path in the file, with names in byte order: a number
-///   that isn't held as a whole number of 64 bits with a sign, or, after a value's numbers, the value itself, where it
-///   is beyond the limits of weight and depth.
+///   that isn't held as a whole number of 64 bits with a sign, or, after a value's numbers, the value itself if it
+///   exceeds the limits of weight and depth.
 /// - 10 at `var.NAME`, for the first variable in byte order that has no value, or one that doesn't fit its type.
 pub fn read_vars(
     alloc: Global,
     text: Option<&[u8]>,
     config: &Config,
 ) -> Result<BTreeMap<String, Value>, Refusal>
-    // What the file gives declared variables are literals, and these are the values of exactly the variables.
+    // The file gives declared variables literals, and these are the values of exactly the declared variables.
     ensures ok { IfOk result (λ values. (file : Option Data) × IsFileOf (option_map (λ bytes. bytes.now) text.entry) file
         × AreMet (file_checks file (variables_of config.now.variables.entries))
         × AreValues file (variables_of config.now.variables.entries) (entries_view values.entries)) }
 
-    // What is told is the first fault, or that there was no memory.
+    // The refusal is the first fault, or out of memory.
     ensures fault { IfErr result (λ refusal.
         IsRefused (option_map (λ bytes. bytes.now) text.entry) (variables_of config.now.variables.entries) (refusal_of refusal)) }
 {

@@ -1,4 +1,4 @@
-//! The words of the format: which property is which, and which texts are types and addresses.
+//! The words of the format: the meaning of each property, and which texts are types and addresses.
 
 ghost use Rattle.std.specs.List.{list_any};
 ghost use Rattle.std.specs.Prelude.{◌≡◌};
@@ -8,7 +8,7 @@ ghost use Rattle.tf_config_json.specs.Words.{block_property_of, is_type_name, li
 use tf_config_address::is_name;
 use tf_config_data::{Element, VariableType};
 
-/// What a property at the top of a configuration is.
+/// The meaning of a property at the top of a configuration.
 #[derive(Clone, Copy)]
 pub(crate) enum Section {
     /// `//`, which is ignored.
@@ -25,7 +25,7 @@ pub(crate) enum Section {
     Other,
 }
 
-/// What a property in the body of a variable is.
+/// The meaning of a property in the body of a variable.
 #[derive(Clone, Copy)]
 pub(crate) enum VariableProperty {
     /// `//`, which is ignored.
@@ -40,7 +40,7 @@ pub(crate) enum VariableProperty {
     Other,
 }
 
-/// What a property of `locals` is.
+/// The meaning of a property of `locals`.
 #[derive(Clone, Copy)]
 pub(crate) enum LocalsProperty {
     /// `//`, which is ignored.
@@ -49,7 +49,7 @@ pub(crate) enum LocalsProperty {
     Local,
 }
 
-/// What a property in the body of an output is.
+/// The meaning of a property in the body of an output.
 #[derive(Clone, Copy)]
 pub(crate) enum OutputProperty {
     /// `//`, which is ignored.
@@ -62,7 +62,7 @@ pub(crate) enum OutputProperty {
     Other,
 }
 
-/// What a property in the body of a resource is.
+/// The meaning of a property in the body of a resource.
 #[derive(Clone, Copy)]
 pub(crate) enum BlockProperty {
     /// `//`, which is ignored.
@@ -75,13 +75,13 @@ pub(crate) enum BlockProperty {
     DependsOn,
     /// `lifecycle`.
     Lifecycle,
-    /// A name that the format keeps for itself, which is refused.
+    /// A reserved name, which is refused.
     Refused,
     /// Any other property: an argument.
     Argument,
 }
 
-/// What a property of `lifecycle` is.
+/// The meaning of a property of `lifecycle`.
 #[derive(Clone, Copy)]
 pub(crate) enum LifecycleProperty {
     /// `//`, which is ignored.
@@ -173,7 +173,7 @@ pub(crate) fn lifecycle_property_named(name: &str) -> LifecycleProperty
     }
 }
 
-/// Whether a text may be a resource type: a name that has no other meaning in an expression.
+/// Checks whether a text may be a resource type: a name that has no other meaning in an expression.
 pub(crate) fn is_type_name(text: &str) -> bool
     ensures { result ≡ is_type_name text.now }
 {
@@ -200,7 +200,7 @@ fn is_reserved_type(text: &str) -> bool
     )
 }
 
-/// The type that a text names.
+/// Returns the type that a text names.
 pub(crate) fn type_named(text: &str) -> Option<VariableType>
     ensures { result ≡ type_in text.now }
 {

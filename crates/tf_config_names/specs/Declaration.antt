@@ -1,4 +1,4 @@
--- A name of a table, without where it lies in memory.
+-- A name of a table as plain data.
 use Rattle.std.specs.Prelude.{string_bytes}
 use Rattle.tf_config_address.specs.ResourceAddr.{addr_of}
 use Rattle.tf_config_data.specs.Config.{block_at}
@@ -7,7 +7,7 @@ use Rattle.tf_expr_syntax.specs.ExprTree.{tree_of}
 use Rattle.tf_config_names.specs.declared.declaration.Declaration.{Declaration}
 use Rattle.tf_config_names.specs.declared.declaration.Declaration.TheVariants.{Local, Resource}
 
--- a name with what it stands for
+-- a name with its meaning
 abbrev pub declaration_of : Declaration → NameView
 declaration_of (Local name expr) = record { name = local_pair (string_bytes name.now); meant = a_local (tree_of expr.now) }
 declaration_of (Resource addr block) = record { name = addr_pair (addr_of addr.now); meant = a_block (block_at (addr_of addr.now) block.now) }

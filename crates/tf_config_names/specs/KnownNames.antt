@@ -39,18 +39,18 @@ abbrev pub has_variable : List VariableView → List ℕ → Bool
 has_variable [] name = false
 has_variable (v ∷ vs) name = bytes_eq name v.name || has_variable vs name
 
--- `var.N`, where the variable is declared
+-- `var.N`, if the variable is declared
 abbrev pub is_variable : List VariableView → Pair → Bool
 is_variable variables pair = bytes_eq (codes "var") pair.0 && has_variable variables pair.1
 
--- In an argument of a block with `count` there is `count.index`, in one of a block with `for_each` there are
--- `each.key` and `each.value`, and anywhere else there is nothing more.
+-- An argument of a block with `count` also has `count.index`, and one of a block with `for_each` also has `each.key`
+-- and `each.value`. No other expression has further names.
 abbrev pub binds : Context → Pair → Bool
 binds Plain pair = false
 binds Counted pair = same_pair (codes "count", codes "index") pair
 binds Keyed pair = same_pair (codes "each", codes "key") pair || same_pair (codes "each", codes "value") pair
 
--- a name is that of a variable, a local or a resource, or one that there is where the expression stands
+-- the name is that of a variable, a local or a resource, or the expression's context has it
 abbrev pub knows : Declared → Context → Pair → Bool
 knows declared context pair = is_variable declared.variables pair || is_some (place_of declared.names pair) || binds context pair
 
@@ -58,14 +58,15 @@ knows declared context pair = is_variable declared.variables pair || is_some (pl
 abbrev pub is_function : List ℕ → Bool
 is_function name = is_some (function_named name)
 
--- Each reference of the template is to a known name, in both branches of a conditional, and each call is of a function.
+-- Each reference of the template is to a known name, in both branches of a conditional, and each called function
+-- exists.
 abbrev pub knows_names : Declared → Context → Woven → Bool
 knows_names declared context w = list_all (knows declared context) (named w) && list_all is_function (called w)
 
--- ---- what there is to check
+-- ---- the checks
 
 pub data NameDemand : Type 0 where
-  -- all that the template names and calls is known where it stands
+  -- all that the template names and calls is known in this context
   only_known_names : Context → Woven → NameDemand
   -- the resource is declared
   a_resource : ResourceAddrView → NameDemand
@@ -84,12 +85,12 @@ unknown_name = (code.UnknownName, bare)
 abbrev pub IsUnknown : Declared → NameDemand → Way → Type 0
 IsUnknown declared demand way = (holds declared demand ≡ false) × (way ≡ unknown_name)
 
--- what there is to check of names, in walk order
+-- the checks of names, in walk order
 abbrev pub NameChecks : Type 0
 NameChecks = List (Check NameDemand)
 
--- What there is to check of an expression at a place, of the elements of a list from a position on, and of the entries
--- of a map: each text, where it stands.
+-- The checks of an expression at a place, of the elements of a list from a position on, and of the entries of a map:
+-- one for each text, at the text's place.
 abbrev mutual
   pub name_checks : Context → List (List ℕ) → Tree → NameChecks
   name_checks context place null = []
@@ -112,7 +113,7 @@ abbrev pub addr_checks : List (List ℕ) → ℕ → List ResourceAddrView → N
 addr_checks place position [] = []
 addr_checks place position (addr ∷ addrs) = demanded (decimal position ∷ place) (a_resource addr) ++ addr_checks place (position + 1) addrs
 
--- A property of a block whose names are checked: an expression, and what is known in it; or resources.
+-- A property of a block whose names are checked: an expression with its context, or resources.
 pub data PropertyView : Type 0 where
   an_expression : Context → Tree → PropertyView
   the_resources : List ResourceAddrView → PropertyView
@@ -120,7 +121,7 @@ pub data PropertyView : Type 0 where
 abbrev pub Body : Type 0
 Body = List (List ℕ × PropertyView)
 
--- one property more, before the first whose name isn't below its name
+-- inserts a property before the first whose name isn't below its name
 abbrev pub put_property : List ℕ × PropertyView → Body → Body
 put_property p [] = p ∷ []
 put_property p (q ∷ qs) = if is_lt (slice_cmp nat_cmp q.0 p.0) then q ∷ put_property p qs else p ∷ q ∷ qs
@@ -134,7 +135,7 @@ context_of single = Plain
 context_of (count e) = Counted
 context_of (for_each e) = Keyed
 
--- `count` and `for_each` themselves know nothing more
+-- `count` and `for_each` themselves have no further names
 abbrev pub put_repetition : RepetitionView → Body → Body
 put_repetition single ps = ps
 put_repetition (count e) ps = put_property (codes "count", an_expression Plain e) ps
@@ -165,7 +166,7 @@ abbrev pub output_checks : Entries → NameChecks
 output_checks no_entries = []
 output_checks (entry name t es) = name_checks Plain (codes "value" ∷ name ∷ codes "output" ∷ []) t ++ output_checks es
 
--- what there is to check of a configuration's names: of locals, outputs and resources
+-- the checks of a configuration's names: of locals, outputs and resources
 abbrev pub config_checks : ConfigView → NameChecks
 config_checks c = entry_name_checks Plain (codes "locals" ∷ []) c.locals ++ output_checks c.outputs ++ block_checks c.blocks
 
@@ -173,12 +174,12 @@ config_checks c = entry_name_checks Plain (codes "locals" ∷ []) c.locals ++ ou
 abbrev pub AreKnown : Declared → NameChecks → Type 0
 AreKnown declared = AllMet (IsKnown declared)
 
--- the first check that fails is what is told, or there was no memory
+-- the refusal reports the first check that fails, or memory ran out
 abbrev pub RefusesNames : Declared → NameChecks → RefusalView → Type 0
 RefusesNames declared checks no_memory = Unit {0}
 RefusesNames declared checks workers = ⊥
 RefusesNames declared checks (fault code place detail) = IsFirst (IsKnown declared) (IsUnknown declared) place (code, detail) checks
 
--- an answer that only judges: each name is known, or the first check that fails is told
+-- a result that only judges: each name is known, or the refusal reports the first check that fails
 abbrev pub JudgesNames : {T : Type 0} → Declared → NameChecks → Result T Refusal → Type 0
 JudgesNames declared checks answer = MatchResult answer (λ _. AreKnown declared checks) (λ refusal. RefusesNames declared checks (refusal_of refusal))

@@ -13,17 +13,17 @@ use Rattle.tf_expr_syntax.specs.TemplateNames.{Pair}
 use Rattle.tf_config_names.specs.Places.{found_in}
 use Rattle.tf_config_names.specs.declared.dependence.Dependence.{Dependence}
 
--- what a name stands for; none where it isn't declared
+-- the meaning of a name, or `None` if it isn't declared
 abbrev pub meant_by : List NameView → Pair → Option Meant
 meant_by [] pair = None
 meant_by (n ∷ ns) pair = if same_pair n.name pair then Some n.meant else meant_by ns pair
 
--- The name a refers to b directly: an expression of what a stands for names b, in both branches of a conditional, or
--- b stands in its `depends_on`; and b is declared.
+-- The name a refers to b directly: an expression of a's meaning names b, in either branch of a conditional, or a's
+-- `depends_on` lists b. And b is declared.
 abbrev pub RefersTo : List NameView → Pair → Pair → Type 0
 RefersTo names a b = Contains (refers_at (meant_by names a)) b × IsSome (place_of names b)
 
--- a name needs another where such references lead to it, one or more, through locals as through resources
+-- a name needs another if one or more such references lead to it, through locals as well as resources
 abbrev pub Needs : List NameView → Pair → Pair → Type 0
 Needs names a b = Path (RefersTo names) a b
 
@@ -31,7 +31,7 @@ Needs names a b = Path (RefersTo names) a b
 abbrev pub pair_text : Pair → List ℕ
 pair_text pair = pair.0 ++ 46 ∷ pair.1
 
--- the name at a place, and two empty texts past the end
+-- the name at a place, or two empty texts past the end
 abbrev pub name_at : List NameView → ℕ → Pair
 name_at [] k = ([], [])
 name_at (n ∷ ns) zero = n.name
@@ -43,11 +43,11 @@ pub record AreCyclic (names : List NameView) (texts : List (List ℕ)) : Type 0 
   pub found : (pair : Pair) → Needs names pair pair → Contains texts (pair_text pair)
   pub led : (text : List ℕ) → Contains texts text → (pair : Pair) × Needs names pair pair × (pair_text pair ≡ text)
 
--- whether the name at the first place needs the one at the other, by a table of dependence
+-- a table of dependence has that the name at the first place needs the one at the other
 abbrev pub needs_in : Dependence → ℕ → ℕ → Bool
 needs_in d a b = reaches d.table b a
 
--- by a table of dependence no name needs itself
+-- no name needs itself by a table of dependence
 abbrev pub IsAcyclic : Dependence → Type 0
 IsAcyclic d = (n : ℕ) → needs_in d n n ≡ false
 
@@ -67,12 +67,12 @@ abbrev pub is_filled : List ℕ → Bool
 is_filled [] = false
 is_filled (x ∷ xs) = true
 
--- the same by a table of dependence
+-- some name refers directly to the one at a place, by a table of dependence
 abbrev pub is_referred_to : Dependence → ℕ → Bool
 is_referred_to d b = is_filled (successors_of d.graph b)
 
--- A table says which of these names needs which, and where each stands. What is needed by what is needed is needed. Its order
--- has each name once and after all that it refers to, and where none needs itself it has all names.
+-- A table gives which of these names needs which, and the place of each. Need is transitive. The table's order has each
+-- name at most once and after all that it refers to. If no name needs itself, the order has all names.
 pub record IsDependence (names : List NameView) (d : Dependence) : Type 0 where
   pub places : (pair : Pair) → found_in d.places pair ≡ place_of names pair
   pub count : d.graph.nodes ≡ length names

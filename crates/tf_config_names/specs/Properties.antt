@@ -1,4 +1,4 @@
--- The properties of a block's body, without where they lie in memory.
+-- The properties of a block's body as plain data.
 use Rattle.std.specs.Prelude.{ℕ, List, map}
 use Rattle.tf_config_address.specs.ResourceAddr.{addr_of}
 use Rattle.tf_expr_syntax.specs.ExprTree.{tree_of}

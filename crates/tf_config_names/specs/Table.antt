@@ -1,4 +1,4 @@
--- The names of a configuration, without where they lie in memory.
+-- The names of a configuration as plain data.
 use Rattle.std.specs.Prelude.{List, map}
 use Rattle.tf_config_data.specs.Names.{NameView}
 pub use Rattle.tf_config_names.specs.Declaration.{declaration_of}

@@ -1,8 +1,8 @@
--- What a refusal tells of a place.
+-- What a refusal reports about a place.
 use Rattle.std.specs.Prelude.{◌≡◌, ℕ, List}
 use Rattle.tf_config_refusal.specs.Refusal.{RefusalView, no_memory, workers, fault, Way}
 
--- a fault at the place, or there was no memory to say so
+-- a fault at the place, or memory ran out for the report
 abbrev pub TellsAt : List ℕ → Way → RefusalView → Type 0
 TellsAt place way no_memory = Unit {0}
 TellsAt place way workers = ⊥

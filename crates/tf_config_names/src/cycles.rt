@@ -15,11 +15,12 @@ use std::collections::BTreeSet;
 use tf_config_refusal::{Code, Detail, Refusal};
 
 impl Dependence {
-    /// The names that need themselves, as `local.NAME` or `TYPE.NAME`, each once and in byte order of these texts.
+    /// Returns the names that need themselves, as `local.NAME` or `TYPE.NAME`, each once and in byte order of these
+    /// texts.
     ///
     /// # Errors
     ///
-    /// Only where memory runs out.
+    /// Fails only if memory runs out.
     pub fn cyclic(&self, alloc: Global, names: &Declarations<'_>) -> Result<Vec<String>, AllocError>
         requires { IsDependence (names_in names.now) self.now }
         ensures { IfOk result (λ texts. AreCyclic (names_in names.now) (map string_bytes texts.items)) }
@@ -33,13 +34,13 @@ impl Dependence {
     }
 }
 
-/// Judges that no name of a configuration needs itself. `dependence` is that of the same names, and then has no place
-/// that needs itself.
+/// Checks that no name of a configuration needs itself. `dependence` has to be that of the same names. On success it
+/// has no place that needs itself.
 ///
 /// # Errors
 ///
-/// `Cycle` at `configuration`, with exactly the names that need themselves, in byte order of their texts; or there
-/// was no memory.
+/// Fails with `Cycle` at `configuration`, with exactly the names that need themselves, in byte order of their texts, or
+/// if memory runs out.
 pub fn demand_acyclic(
     alloc: Global,
     names: &Declarations<'_>,
@@ -61,7 +62,7 @@ pub fn demand_acyclic(
     })
 }
 
-/// Notes a name where it needs itself.
+/// Adds a name if it needs itself.
 fn note(
     alloc: Global,
     found: &mut BTreeSet<String>,
@@ -78,7 +79,7 @@ fn note(
     Ok(())
 }
 
-/// A name as it stands in a text.
+/// Returns a name as it is written in a text.
 fn text_of(alloc: Global, named: Declaration<'_>) -> Result<String, AllocError>
     ensures { IfOk result (λ text. string_bytes text ≡ pair_text (declaration_of named.entry).name) }
 {
@@ -91,7 +92,7 @@ fn text_of(alloc: Global, named: Declaration<'_>) -> Result<String, AllocError>
     }
 }
 
-/// The texts one after another.
+/// Returns the texts as a list, in byte order.
 fn in_order(alloc: Global, texts: BTreeSet<String>) -> Result<Vec<String>, AllocError>
     ensures same { IfOk result (λ list. list.items ≡ texts.keys) }
     ensures sorted { IfOk result (λ list. IsStrictlySortedBy string_cmp list.items) }

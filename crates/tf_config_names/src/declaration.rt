@@ -7,17 +7,17 @@ use tf_config_address::ResourceAddr;
 use tf_config_data::Block;
 use tf_expr_syntax::Expr;
 
-/// A name of a configuration, with what it stands for.
+/// A name of a configuration, with its meaning.
 #[derive(Clone, Copy)]
 pub enum Declaration<'a> {
-    /// `local.NAME`: the name, and the expression that it stands for.
+    /// `local.NAME`: the name and its expression.
     Local(&'a String, &'a Expr),
     /// `TYPE.NAME`: the resource's type and name, and its block.
     Resource(&'a ResourceAddr, &'a Block),
 }
 
 impl<'a> Declaration<'a> {
-    /// The two texts around the name's dot.
+    /// Returns the two texts around the name's dot.
     pub(crate) fn texts(self) -> (&'a str, &'a str)
         ensures { (result.0.now, result.1.now) ≡ (declaration_of self.entry).name }
     {

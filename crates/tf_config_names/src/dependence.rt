@@ -19,7 +19,7 @@ use std::alloc::{AllocError, Global};
 use tf_config_data::Config;
 use tf_graph::{Closure, Graph};
 
-/// Which name of a configuration needs which, worked out once. Names stand as their places, by which they are found here.
+/// Which name of a configuration needs which, computed once. Names are given by their places, which are looked up here.
 #[derive(Drop)]
 pub struct Dependence {
     graph: Graph,
@@ -29,11 +29,11 @@ pub struct Dependence {
 }
 
 impl Dependence {
-    /// Works out which name of a configuration needs which.
+    /// Computes which name of a configuration needs which.
     ///
     /// # Errors
     ///
-    /// Only where memory runs out.
+    /// Fails only if memory runs out.
     pub fn new(alloc: Global, config: &Config) -> Result<Dependence, AllocError>
         requires { length (names_of (config_of config.now)) ≤ 8000 }
         ensures { IfOk result (λ d. IsDependence (names_of (config_of config.now)) d) }
@@ -52,42 +52,43 @@ impl Dependence {
         })
     }
 
-    /// The places of the configuration's names.
+    /// Returns the places of the configuration's names.
     pub(crate) fn places(&self) -> &Places
         ensures { result.now ≡ self.now.places }
     {
         &self.places
     }
 
-    /// The graph of what refers directly to what, which leads from what is referred to.
+    /// Returns the graph of direct references. Its edges lead from a name to the names that refer to it.
     pub fn graph(&self) -> &Graph
         ensures { result.now ≡ self.now.graph }
     {
         &self.graph
     }
 
-    /// What needs what, through others too, as a table that leads from what is needed to what needs it.
+    /// Returns a table of what needs what, directly or through others. It leads from what is needed to what needs it.
     pub fn table(&self) -> &Closure
         ensures { result.now ≡ self.now.table }
     {
         &self.table
     }
 
-    /// Whether the name at the first place needs the one at the other.
+    /// Checks whether the name at the first place needs the one at the other.
     pub fn needs(&self, name: usize, other: usize) -> bool
         ensures { result ≡ needs_in self.now name other }
     {
         self.table.reaches(other, name)
     }
 
-    /// Places of names, each after all that the name there refers to. Where no name needs itself, the places of all.
+    /// Returns places of names, each after all that the name there refers to. If no name needs itself, these are all
+    /// places.
     pub fn order(&self) -> &[usize]
         ensures { result.now ≡ order_in self.now }
     {
         self.order.as_slice()
     }
 
-    /// The places of what the name at a place refers to directly, as often as it does.
+    /// Returns the places of what the name at a place refers to directly, once for each reference.
     pub fn before(&self, name: usize) -> &[usize]
         requires { name < self.now.graph.nodes }
         ensures { result.now ≡ before_in self.now name }
@@ -95,11 +96,11 @@ impl Dependence {
         self.graph.predecessors(name)
     }
 
-    /// For each place, whether the name at the given one needs the name there.
+    /// Returns for each place whether the name at `name` needs the name there.
     ///
     /// # Errors
     ///
-    /// Only where memory runs out.
+    /// Fails only if memory runs out.
     pub fn needed_by(&self, alloc: Global, name: usize) -> Result<Vec<bool>, AllocError>
         ensures length { IfOk result (λ needed. length needed.items ≡ self.now.table.nodes) }
         ensures needed { IfOk result (λ needed. (k : ℕ) → k < self.now.table.nodes
@@ -112,11 +113,11 @@ impl Dependence {
         Ok(needed)
     }
 
-    /// For each place, whether a name refers directly to the one there.
+    /// Returns for each place whether a name refers directly to the one there.
     ///
     /// # Errors
     ///
-    /// Only where memory runs out.
+    /// Fails only if memory runs out.
     pub fn referred_to(&self, alloc: Global) -> Result<Vec<bool>, AllocError>
         ensures { IfOk result (λ referred. (k : ℕ) → k < self.now.graph.nodes
             → slice_index_or referred.items k false ≡ is_referred_to self.now k) }
@@ -129,7 +130,7 @@ impl Dependence {
     }
 }
 
-/// Whether a name refers directly to the one at a place.
+/// Checks whether a name refers directly to the one at a place.
 fn is_referred_to(dependence: &Dependence, name: usize) -> bool
     requires { name < dependence.now.graph.nodes }
     ensures { result ≡ is_referred_to dependence.now name }
@@ -140,7 +141,7 @@ fn is_referred_to(dependence: &Dependence, name: usize) -> bool
     }
 }
 
-/// How many names there are, and an edge to each from each that it refers to.
+/// Returns the number of names, and an edge to each from each that it refers to.
 fn direct_edges(
     alloc: Global,
     entries: Vec<Declaration<'_>>,
@@ -158,7 +159,7 @@ fn direct_edges(
     Ok((names.len(), edges))
 }
 
-/// An edge to each name from each that it refers to.
+/// Builds an edge to each name from each that it refers to.
 fn edges_of(alloc: Global, names: &Declarations<'_>) -> Result<Vec<(usize, usize)>, AllocError>
     ensures within { IfOk result (λ edges. AllByRecursion
         (λ e. (e.0 < length (names_in names.now)) × (e.1 < length (names_in names.now))) edges.items) }
@@ -173,7 +174,7 @@ fn edges_of(alloc: Global, names: &Declarations<'_>) -> Result<Vec<(usize, usize
     Ok(edges)
 }
 
-/// Adds an edge from each node to one.
+/// Adds an edge from each source to the target.
 fn add_edges(
     edges: &mut Vec<(usize, usize)>,
     sources: &[usize],

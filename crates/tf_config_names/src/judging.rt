@@ -1,4 +1,4 @@
-//! The names of a configuration, judged.
+//! The checks of a configuration's names.
 
 ghost use Rattle.std.specs.Prelude.{◌≡◌, ◌≤◌, IfErr, IfOk, OnOk, length};
 ghost use Rattle.tf_config_data.specs.Config.{config_of};
@@ -15,12 +15,14 @@ use std::alloc::Global;
 use tf_config_data::Config;
 use tf_config_refusal::Refusal;
 
-/// Which name of a configuration needs which, where each reference is to a known name and no name needs itself.
+/// Computes which name of a configuration needs which, and checks that each reference is to a known name and no name
+/// needs itself.
 ///
 /// # Errors
 ///
-/// `UnknownName` at the first place in walk order at which something is named or called that isn't known; where there
-/// is none, `Cycle` at `configuration` with exactly the names that need themselves; or there was no memory.
+/// Fails with `UnknownName` at the first place in walk order at which an unknown name is referred to or called. If
+/// there is no such place, fails with `Cycle` at `configuration` if names need themselves, and lists exactly these.
+/// Also fails if memory runs out.
 pub fn check_names(alloc: Global, config: &Config) -> Result<Dependence, Refusal>
     requires few { length (names_of (config_of config.now)) ≤ 8000 }
     ensures dependence { IfOk result (IsDependence (names_of (config_of config.now))) }
@@ -33,7 +35,8 @@ pub fn check_names(alloc: Global, config: &Config) -> Result<Dependence, Refusal
     Ok(dependence)
 }
 
-/// Judges the names of a configuration by their dependence: each reference is to a known name, and no name needs itself.
+/// Checks the names of a configuration by their dependence: each reference is to a known name, and no name needs
+/// itself.
 fn demand_good_names(alloc: Global, config: &Config, dependence: &Dependence) -> Result<(), Refusal>
     requires { IsDependence (names_of (config_of config.now)) dependence.now }
     ensures known { OnOk result (AllAreKnown (config_of config.now)) }

@@ -21,7 +21,7 @@ use tf_config_data::{Block, Config, Variable};
 use tf_config_refusal::{Code, Detail, Path, Refusal};
 use tf_expr_syntax::{Expr, Function, Reference, Template, names_of};
 
-/// What an expression may name beside what is declared, by where it stands.
+/// What an expression may name in addition to what is declared, depending on where it is.
 #[derive(Clone, Copy, Debug, PartialEq, Eq)]
 pub enum Context {
     /// Nothing: in `count` and `for_each`, in an argument of a block with neither, in a local or an output.
@@ -33,7 +33,7 @@ pub enum Context {
 }
 
 impl Context {
-    /// Whether it has a name, by the two texts around its dot.
+    /// Checks whether the context has a name, given by the two texts around its dot.
     pub fn binds(self, first: &str, name: &str) -> bool
         ensures { result ≡ binds self (first.now, name.now) }
     {
@@ -46,7 +46,7 @@ impl Context {
     }
 }
 
-/// What a configuration declares, and the memory for what is told of it.
+/// What a configuration declares, and the allocator for refusals.
 #[derive(Clone, Copy)]
 struct Known<'a, 'n> {
     alloc: Global,
@@ -55,7 +55,7 @@ struct Known<'a, 'n> {
 }
 
 impl Known<'_, '_> {
-    /// Whether a name is known in a context, by the two texts around its dot.
+    /// Checks whether a name, given by the two texts around its dot, is known in a context.
     fn knows(&self, context: Context, first: &str, name: &str) -> bool
         ensures { result ≡ knows (declared_of self.now) context (first.now, name.now) }
     {
@@ -115,7 +115,7 @@ fn is_function(name: &str) -> bool
     Function::named(name).is_some()
 }
 
-/// The text at the place names or calls something that isn't known.
+/// Builds the refusal of a text at the path that names or calls something unknown.
 fn names_unknown(alloc: Global, path: &Path<'_>) -> Refusal
     ensures { TellsAt (dotted (place_at path.now)) unknown_name (refusal_of result) }
 {
@@ -129,13 +129,13 @@ fn names_unknown(alloc: Global, path: &Path<'_>) -> Refusal
     }
 }
 
-/// Judges the names of a configuration: each reference is to a declared variable, local or resource, or to what is
-/// known where it stands; each function is one; and what stands in `depends_on` is declared. `names` are the names
-/// of the same configuration.
+/// Checks the names of a configuration. Each reference has to be to a declared variable, local or resource, or to what
+/// is known in its context. Each called function has to exist, and each resource in `depends_on` has to be declared.
+/// `names` are the names of the same configuration.
 ///
 /// # Errors
 ///
-/// `UnknownName` at the first place in walk order where this isn't so; or there was no memory.
+/// Fails with `UnknownName` at the first place in walk order where this isn't so, or if memory runs out.
 pub fn demand_known_names(
     alloc: Global,
     config: &Config,
@@ -165,7 +165,7 @@ fn demand_outputs(known: Known<'_, '_>, outputs: &BTreeMap<String, Expr>) -> Res
     Ok(())
 }
 
-/// The value of an output.
+/// Checks the value of an output.
 fn demand_output(known: Known<'_, '_>, name: &str, expr: &Expr) -> Result<(), Refusal>
     ensures { JudgesNames (declared_of known.entry) (name_checks Plain (codes "value" ∷ name.now ∷ codes "output" ∷ []) (tree_of expr.now)) result }
 {
@@ -187,7 +187,7 @@ fn demand_blocks(
     Ok(())
 }
 
-/// The block of a resource.
+/// Checks the block of a resource.
 fn demand_resource(known: Known<'_, '_>, addr: &ResourceAddr, block: &Block) -> Result<(), Refusal>
     ensures { JudgesNames (declared_of known.entry) (body_checks (block_place (addr_of addr.now)) (body_of (block_at (addr_of addr.now) block.now))) result }
 {
@@ -197,7 +197,7 @@ fn demand_resource(known: Known<'_, '_>, addr: &ResourceAddr, block: &Block) -> 
     demand_block(known, &name, block)
 }
 
-/// The block stands at the path.
+/// Checks the block at the path.
 fn demand_block<'a>(
     known: Known<'_, '_>,
     path: &'a Path<'a>,
@@ -262,7 +262,7 @@ fn demand_addr(known: Known<'_, '_>, path: &Path<'_>, addr: &ResourceAddr) -> Re
     }
 }
 
-/// The expression stands at the path.
+/// Checks the expression at the path.
 #[cycle(names)]
 fn demand_expr<'a>(
     known: Known<'_, '_>,

@@ -1,7 +1,7 @@
-//! The names of a configuration: what each stands for, and what it refers to directly.
+//! The names of a configuration: what each means, and what it refers to directly.
 //!
 //! A name is a local value or a resource. Each has a place, by which it is numbered: locals in byte order of their
-//! names, then resources in address order. What names stand for and refer to is defined in `tf_config_data`.
+//! names, then resources in address order. `tf_config_data` defines what names mean and refer to.
 #![tactic(auto)]
 
 mod cycles;

@@ -26,7 +26,7 @@ impl Model for Places {
 }
 
 impl Places {
-    /// No name has a place.
+    /// Returns a table in which no name has a place.
     pub fn empty(alloc: Global) -> Places
         ensures { (pair : Pair) → found_in result pair ≡ None }
     {
@@ -35,11 +35,11 @@ impl Places {
         }
     }
 
-    /// The places of the names in a list, from 0 on. Of names that are the same it has the first.
+    /// Builds the places of the names in a list, from 0 on. Of equal names it keeps the first.
     ///
     /// # Errors
     ///
-    /// Only where memory runs out.
+    /// Fails only if memory runs out.
     pub(crate) fn of(alloc: Global, entries: &[Declaration<'_>]) -> Result<Places, AllocError>
         ensures { IfOk result (λ places. (pair : Pair) → found_in places pair ≡ place_of (map declaration_of entries.now) pair) }
     {
@@ -51,18 +51,18 @@ impl Places {
         Ok(places)
     }
 
-    /// The place of a name, by the two texts around its dot; `None` where it has none.
+    /// Returns the place of a name, given by the two texts around its dot, or `None` if it has no place.
     pub fn find(&self, first: &str, name: &str) -> Option<usize>
         ensures { result ≡ found_in self.now (first.now, name.now) }
     {
         place_in(&self.by_first, first, name)
     }
 
-    /// Puts a name at a place, and nowhere else.
+    /// Puts a name at a place, and removes its former place.
     ///
     /// # Errors
     ///
-    /// Only where memory runs out.
+    /// Fails only if memory runs out.
     pub fn put(
         &mut self,
         alloc: Global,
@@ -80,7 +80,7 @@ impl Places {
 /// A map of maps, by the text before the dot and then by the one after it.
 type ByFirst = BTreeMap<String, BTreeMap<String, usize>>;
 
-/// What stands in a map of maps under two texts.
+/// Returns the place in a map of maps under two texts.
 fn place_in(by_first: &ByFirst, first: &str, name: &str) -> Option<usize>
     ensures { result ≡ found_in_maps by_first.now (first.now, name.now) }
 {

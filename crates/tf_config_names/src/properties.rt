@@ -1,4 +1,4 @@
-//! The properties of a block's body, whose names are checked, in byte order.
+//! The properties of a block's body whose names are checked, in byte order.
 
 ghost use Rattle.std.specs.Prelude.{◌≡◌, ◌≤◌, ◌++◌, ◌∷◌, IfOk, OnOk, drop, length, map, take};
 ghost use Rattle.std.specs.Cmp.Lexicographic.{slice_cmp};
@@ -15,7 +15,7 @@ use tf_config_address::ResourceAddr;
 use tf_config_data::{Block, Repetition};
 use tf_expr_syntax::Expr;
 
-/// What a property of a block's body says.
+/// The value of a property of a block's body.
 #[derive(Clone, Copy)]
 pub(crate) enum PropertyValue<'a> {
     /// An expression, and what is known in it.
@@ -31,7 +31,7 @@ pub(crate) struct Property<'a> {
     pub(crate) value: PropertyValue<'a>,
 }
 
-/// The properties of a block's body in byte order of their names: its arguments, `count` or `for_each`, and
+/// Returns the properties of a block's body in byte order of their names: its arguments, `count` or `for_each`, and
 /// `depends_on`.
 pub(crate) fn properties_of<'a>(
     alloc: Global,
@@ -90,7 +90,7 @@ fn put_repetition<'a>(
     }
 }
 
-/// A property whose expression knows nothing more.
+/// Builds a property whose expression has no further names.
 fn plain<'a>(name: &'a str, expr: &'a Expr) -> Property<'a>
     ensures { property_view result ≡ (name.now, an_expression Plain (tree_of expr.now)) }
 {
@@ -100,7 +100,7 @@ fn plain<'a>(name: &'a str, expr: &'a Expr) -> Property<'a>
     }
 }
 
-/// Puts a property before the first whose name isn't below its name.
+/// Inserts a property before the first whose name isn't below its name.
 fn put<'a>(body: &mut Vec<Property<'a>>, property: Property<'a>) -> Result<(), AllocError>
     ensures { OnOk result (map property_view body.new.items
         ≡ put_property (property_view property.entry) (map property_view body.old.items)) }
@@ -110,7 +110,7 @@ fn put<'a>(body: &mut Vec<Property<'a>>, property: Property<'a>) -> Result<(), A
     Ok(())
 }
 
-/// How many properties stand before the first whose name isn't below a name.
+/// Returns how many properties come before the first whose name isn't below the given name.
 fn below(body: &[Property<'_>], name: &str) -> usize
     ensures few { result ≤ length body.now }
     ensures before { (value : PropertyView) → put_property (name.now, value) (map property_view body.now)

@@ -15,8 +15,8 @@ use tf_config_address::ResourceAddr;
 use tf_config_data::{Block, Config, Repetition};
 use tf_expr_syntax::Expr;
 
-/// The names of a configuration that need and can be needed: its locals in byte order, then its resources in
-/// address order. Each stands at a place, from 0 on. Where they stand is looked up in a table that was made once.
+/// The names of a configuration that can need and be needed: its locals in byte order, then its resources in address
+/// order. Each has a place, from 0 on. Places are looked up in a table that was built once.
 #[derive(Drop)]
 pub struct Declarations<'a> {
     entries: Vec<Declaration<'a>>,
@@ -27,11 +27,11 @@ pub struct Declarations<'a> {
 impl<'a> Declarations<'a> {
     ghost use Rattle.tf_config_names.specs.Table.{names_in};
 
-    /// The names of a configuration, whose places are those that its dependence keeps.
+    /// Builds the names of a configuration. Their places are those of its dependence.
     ///
     /// # Errors
     ///
-    /// Only where memory runs out.
+    /// Fails only if memory runs out.
     pub fn new(
         alloc: Global,
         config: &'a Config,
@@ -45,7 +45,7 @@ impl<'a> Declarations<'a> {
         Ok(Declarations { entries, places })
     }
 
-    /// Names whose places are already known.
+    /// Builds a table of names whose places are already known.
     pub(crate) fn placed(entries: Vec<Declaration<'a>>, places: &'a Places) -> Declarations<'a>
         requires { (pair : Pair) → found_in places.now pair ≡ place_of (map declaration_of entries.items) pair }
         ensures { names_in result ≡ map declaration_of entries.entry.items }
@@ -53,14 +53,14 @@ impl<'a> Declarations<'a> {
         Declarations { entries, places }
     }
 
-    /// How many names there are.
+    /// Returns how many names there are.
     pub fn len(&self) -> usize
         ensures { result ≡ length (names_in self.now) }
     {
         self.entries.len()
     }
 
-    /// What stands at a place.
+    /// Returns the name at a place.
     pub fn at(&self, place: usize) -> Declaration<'a>
         requires { place < length (names_in self.now) }
         ensures name { slice_get (names_in self.now) place ≡ Some (declaration_of result) }
@@ -69,19 +69,19 @@ impl<'a> Declarations<'a> {
         self.entries[place]
     }
 
-    /// The place of a name, by the two texts around its dot; `None` where it isn't declared.
+    /// Returns the place of a name, given by the two texts around its dot, or `None` if it isn't declared.
     pub fn place(&self, first: &str, name: &str) -> Option<usize>
         ensures { result ≡ place_of (names_in self.now) (first.now, name.now) }
     {
         self.places.find(first, name)
     }
 
-    /// The places of all names that the one at a place refers to directly, as often as it does: in its expressions,
-    /// both branches of a conditional included, and in `depends_on`. What isn't declared is left out.
+    /// Returns the places of all names that the one at a place refers to directly, once for each reference: in its
+    /// expressions, including both branches of a conditional, and in `depends_on`. What isn't declared is left out.
     ///
     /// # Errors
     ///
-    /// Only where memory runs out.
+    /// Fails only if memory runs out.
     pub fn before(&self, alloc: Global, place: usize) -> Result<Vec<usize>, AllocError>
         requires { place < length (names_in self.now) }
         ensures { IfOk result (λ before. before.items ≡ directly_before (names_in self.now) place) }
@@ -91,12 +91,12 @@ impl<'a> Declarations<'a> {
         Ok(found)
     }
 
-    /// The places of all names that an expression names, as often as it does, both branches of a conditional included.
-    /// What isn't declared is left out.
+    /// Returns the places of all names that an expression names, once for each reference, including both branches of a
+    /// conditional. What isn't declared is left out.
     ///
     /// # Errors
     ///
-    /// Only where memory runs out.
+    /// Fails only if memory runs out.
     pub fn named_in(&self, alloc: Global, expr: &Expr) -> Result<Vec<usize>, AllocError>
         ensures { IfOk result (λ found. found.items ≡ places (names_in self.now) (named_by (tree_of expr.now))) }
     {
@@ -182,7 +182,7 @@ impl<'a> Declarations<'a> {
         Ok(())
     }
 
-    /// Adds the place of a name, where it is declared.
+    /// Adds the place of a name if it is declared.
     fn add_place(&self, first: &str, name: &str, found: &mut Vec<usize>) -> Result<(), AllocError>
         ensures { OnOk result (found.new.items
             ≡ found.old.items ++ places (names_in self.now) ((first.now, name.now) ∷ [])) }
@@ -194,7 +194,7 @@ impl<'a> Declarations<'a> {
     }
 }
 
-/// The names of a configuration, in the order of their places.
+/// Returns the names of a configuration, in the order of their places.
 pub(crate) fn declarations_of<'a>(
     alloc: Global,
     config: &'a Config,

@@ -2,13 +2,13 @@
 use Rattle.std.specs.Prelude.{◌≡◌, ◌⊎◌, ℕ, List, [], ◌∷◌}
 use Rattle.tf_config_refusal.specs.Place.{dotted}
 
--- A check is a demand at a place, which stands as its text. What demands there are, and when one is met
--- or fails, each format says for itself.
+-- A check is a demand at a place, which is given as its text. Each format defines its demands, and when one is met or
+-- fails.
 pub record Check (D : Type 0) : Type 0 where
   pub place : List ℕ
   pub demand : D
 
--- the demand at the place, which is given by its steps
+-- the demand at the place with these steps
 abbrev pub demanded : {D : Type 0} → List (List ℕ) → D → List (Check D)
 demanded place demand = record { place = dotted place; demand = demand } ∷ []
 
@@ -17,7 +17,7 @@ abbrev pub AllMet : {D : Type 0} → (D → Type 0) → List (Check D) → Type 
 AllMet IsMet [] = Unit {0}
 AllMet IsMet (check ∷ checks) = IsMet check.demand × AllMet IsMet checks
 
--- the first check that isn't met stands at this place, and fails in this way
+-- the first check that isn't met has this place, and fails in this way
 abbrev pub IsFirst : {D K : Type 0} → (D → Type 0) → (D → K → Type 0) → List ℕ → K → List (Check D) → Type 0
 IsFirst IsMet Fails place way [] = ⊥
 IsFirst IsMet Fails place way (check ∷ checks) =

@@ -4,8 +4,8 @@ use Rattle.std.specs.Fmt.{decimal}
 use Rattle.tf_config_refusal.specs.declared.path.Path.{Path, fold-Path}
 use Rattle.tf_config_refusal.specs.declared.path.Path.TheOpen.{Path-F}
 
--- A place is the list of the steps that lead to it, the last step first: names of properties, and
--- positions in arrays in decimal digits.
+-- A place is the list of the steps that lead to it, the last step first. A step is the name of a property, or a
+-- position in an array in decimal digits.
 abbrev pub place_step : Path-F (List (List ℕ)) → List (List ℕ)
 place_step Path-F.Root = []
 place_step (Path-F.Member place name) = name.now ∷ place.now

@@ -1,4 +1,4 @@
--- What a refusal tells, without where it lies in memory.
+-- A refusal as plain data.
 use Rattle.std.specs.Prelude.{ℕ, List, map, string_bytes}
 use Rattle.tf_expr_syntax.specs.declared.fault.EvalFault.{EvalFault}
 use Rattle.tf_config_refusal.specs.declared.code.Code.{Code}
@@ -7,22 +7,20 @@ use Rattle.tf_config_refusal.specs.declared.refusal.Detail.TheVariants as detail
 use Rattle.tf_config_refusal.specs.declared.refusal.Refusal.{Refusal}
 use Rattle.tf_config_refusal.specs.declared.refusal.Refusal.TheVariants as refusals
 
--- what stands behind a refusal's name: nothing, a byte offset, the names of a cycle, or how an
--- evaluation failed
+-- what follows a refusal's name: nothing, a byte offset, the names of a cycle, or how an evaluation failed
 pub data DetailView : Type 0 where
   bare : DetailView
   at : ℕ → DetailView
   names : List (List ℕ) → DetailView
   kind : EvalFault → DetailView
 
--- what a refusal tells: that there was no memory, that the number of workers is wrong, or a fault with
--- its code, its place and what stands behind its name
+-- a refusal: memory ran out, the number of workers is wrong, or a fault with its code, its place and its detail
 pub data RefusalView : Type 0 where
   no_memory : RefusalView
   workers : RefusalView
   fault : Code → List ℕ → DetailView → RefusalView
 
--- a refusal's code, and what stands behind its name
+-- a refusal's code and detail
 abbrev pub Way : Type 0
 Way = Code × DetailView
 

@@ -11,7 +11,7 @@ abbrev pub names_text : List (List ℕ) → List ℕ
 names_text [] = []
 names_text (name ∷ others) = name ++ flat_map (λ other. codes ", " ++ other) others
 
--- what stands behind a refusal's name, in parentheses
+-- what follows a refusal's name, in parentheses
 abbrev pub detail_text : DetailView → List ℕ
 detail_text bare = []
 detail_text (at offset) = codes "(" ++ decimal offset ++ codes ")"

@@ -3,16 +3,16 @@
 ghost use Rattle.std.specs.Prelude.{◌≡◌};
 ghost use Rattle.tf_config_refusal.specs.Code.{name_of, number_of};
 
-/// What is refused before any call, or told of an action or an output: each has a number and a name.
+/// The code of a refusal, or of a diagnostic about an action or an output. Each code has a number and a name.
 #[derive(Clone, Copy, Debug, PartialEq, Eq)]
 pub enum Code {
     /// A file isn't JSON.
     NotJson,
     /// A property, a block or a name that the format doesn't allow.
     BadShape,
-    /// A text is no template.
+    /// A text isn't a template.
     BadTemplate,
-    /// A name that isn't declared, or a function that isn't there.
+    /// A name that isn't declared, or a function that doesn't exist.
     UnknownName,
     /// Locals or resources that need themselves.
     Cycle,
@@ -28,44 +28,44 @@ pub enum Code {
     BadArgument,
     /// No provider has the type.
     NoProvider,
-    /// An object that may not be destroyed would be.
+    /// An object with `prevent_destroy` would be destroyed.
     PreventDestroy,
     /// A state isn't in the format.
     BadState,
-    /// More than is allowed.
+    /// A limit is exceeded.
     Limit,
-    /// There was no memory before any call.
+    /// Memory ran out before any call.
     OutOfMemory,
     /// A provider failed.
     Failed,
     /// A reply contradicts what was planned.
     Contradiction,
-    /// A reply is no object of the type.
+    /// A reply isn't an object of the type.
     Malformed,
-    /// What is asked of a provider, or an output, has a fault.
+    /// The request for a provider, or an output, has a fault.
     ArgumentFault,
-    /// There was no memory for an action or an output.
+    /// Memory ran out for an action or an output.
     NoMemory,
-    /// An action was left because of a stop.
+    /// An action wasn't begun because of a stop.
     Left,
 }
 
 impl Code {
-    /// The number that stands in texts.
+    /// Returns the number that refusals and diagnostics print.
     pub fn number(self) -> u8
         ensures { result ≡ number_of self }
     {
         self.row().0
     }
 
-    /// The name that stands in texts of refusals.
+    /// Returns the name that refusals print.
     pub fn name(self) -> &'static str
         ensures { result.now ≡ name_of self }
     {
         self.row().1
     }
 
-    /// The number and the name.
+    /// Returns the number and the name.
     fn row(self) -> (u8, &'static str)
         ensures number { result.0 ≡ number_of self }
         ensures name { result.1.now ≡ name_of self }

@@ -1,8 +1,9 @@
-//! Refusals: why nothing was called, with a code, a place and a name, and the text that the user reads.
+//! Refusals: why no provider was called, with a code, a place and a name, and the text that the user reads.
 //!
-//! A reader of a JSON text refuses it at the first place, in walk order, that the format doesn't allow. The definitions in `specs/` say
-//! so for any format: a list of checks, each a place with what is demanded there, and what is read as steps that members add one
-//! after another. `Path` is the place in code: a list of borrowed steps that is written out only where there is a fault.
+//! A reader of a JSON text refuses it at the first place, in walk order, that the format doesn't allow. The definitions
+//! in `specs/` state that for any format. The demands are a list of checks, each with a place. The value that is read
+//! is built in steps, one for each member. `Path` is the place in code: a list of borrowed steps that is written out
+//! only if there is a fault.
 #![tactic(auto)]
 
 mod code;

@@ -1,6 +1,6 @@
 use std::fmt;
 
-/// Names, as they stand in a text: one after another, with `, ` between them.
+/// A list of names, printed with `, ` between them.
 #[derive(Clone, Copy)]
 pub(crate) struct NameList<'a> {
     pub(crate) names: &'a [String],

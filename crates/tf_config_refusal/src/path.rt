@@ -4,7 +4,7 @@ ghost use Rattle.tf_config_refusal.specs.Place.{place_of, dotted, is_top};
 use std::alloc::{AllocError, Global};
 use std::fmt::Write;
 
-/// A place in a JSON text, as borrowed steps from the top. No step takes memory.
+/// A place in a JSON text, as borrowed steps from the top. No step allocates memory.
 #[derive(Drop)]
 pub enum Path<'a> {
     /// The top of the text.
@@ -16,12 +16,12 @@ pub enum Path<'a> {
 }
 
 impl Path<'_> {
-    /// The names and positions from the top down to the place, joined by dots, as `a.b.0`. Names stand as
+    /// Returns the names and positions from the top down to the place, joined by dots, as `a.b.0`. Names are printed as
     /// they are written. The text of the root is empty.
     ///
     /// # Errors
     ///
-    /// Only where memory runs out.
+    /// Fails only if memory runs out.
     pub fn text(&self, alloc: Global) -> Result<String, AllocError>
         ensures { IfOk result (λ s. string_bytes s ≡ dotted (place_of self.now)) }
     {
@@ -47,7 +47,7 @@ impl Path<'_> {
     }
 }
 
-// The text, ready for another step: with a dot, unless it is that of the root.
+// Prepares the text for another step: adds a dot, unless it is the text of the root.
 fn continued(mut text: String, at_root: bool) -> Result<String, AllocError>
     ensures { IfOk result (λ s. string_bytes s
         ≡ (if at_root then string_bytes text else string_bytes text ++ 46 ∷ [])) }

@@ -7,10 +7,10 @@ use std::alloc::{AllocError, AllocFailed};
 use std::fmt;
 use tf_expr_syntax::EvalFault;
 
-/// Why nothing was called: what was wrong with what the user gave, or with the machine.
+/// Why no provider was called: something was wrong with the user's input or with the machine.
 #[derive(Debug, Drop)]
 pub enum Refusal {
-    /// A growth was refused: code 15.
+    /// An allocation failed: code 15.
     OutOfMemory,
     /// The number of workers isn't 1 to 64: code 14.
     Workers,
@@ -21,17 +21,17 @@ pub enum Refusal {
         /// Where the fault is: a whole file's name, a path of property names and array positions joined
         /// by dots, or an address.
         place: String,
-        /// What stands behind the refusal's name in its text.
+        /// The detail after the refusal's name in its text.
         detail: Detail,
     },
 }
 
-/// What stands behind a refusal's name.
+/// The detail after a refusal's name.
 #[derive(Debug, Drop)]
 pub enum Detail {
     /// Nothing.
     Bare,
-    /// The byte offset at which a text is no template.
+    /// The byte offset at which a text isn't a template.
     At(usize),
     /// The names of locals and resources in a cycle, in byte order.
     Names(Vec<String>),
@@ -55,7 +55,7 @@ impl<T: Drop> From<AllocFailed<T>> for Refusal {
     }
 }
 
-/// `error CODE at PLACE: NAME`, with no newline.
+/// Writes `error CODE at PLACE: NAME` and the detail, without a newline.
 impl fmt::Display for Refusal {
     ghost use Rattle.tf_config_refusal.specs.Refusal.{refusal_of};
     ghost use Rattle.tf_config_refusal.specs.Text.{refusal_text};
@@ -79,7 +79,7 @@ impl fmt::Display for Refusal {
     }
 }
 
-/// What stands behind a refusal's name: nothing, or the detail in parentheses.
+/// Writes what follows a refusal's name: nothing, or the detail in parentheses.
 impl fmt::Display for Detail {
     ghost use Rattle.tf_config_refusal.specs.Refusal.{detail_of};
     ghost use Rattle.tf_config_refusal.specs.Text.{detail_text};

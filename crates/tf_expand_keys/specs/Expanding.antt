@@ -13,19 +13,19 @@ use Rattle.tf_expand_keys.specs.declared.repetition.RepetitionFault.{RepetitionF
 abbrev pub max_instances : ℕ
 max_instances = 2000
 
--- The shape of what a name stands for: of a resource its instances, or why they can't be told. A local is one value.
+-- The shape of a name's meaning: of a resource its instances, or why it is refused. A local is one value.
 abbrev pub shape_in : Option Meant → Environment → Result InstanceKeysView RepetitionFault
 shape_in None env = Ok one
 shape_in (Some (a_local e)) env = Ok one
 shape_in (Some (a_block b)) env = instances b.repetition env
 
--- What becomes of a name in the expansion: its shape, or why it is refused. Where something that it needs is refused,
--- it isn't refused itself.
+-- The expansion of a name: its shape, or why it is refused. A name isn't refused itself if something that it needs is
+-- refused.
 abbrev pub expanded : Entries → List NameView → (ℕ → ResolvedView) → ℕ → Result InstanceKeysView RepetitionFault
 expanded variables names resolved_names n =
     if all_stand (seen_by resolved_names (directly_before names n)) then shape_in (meant_at names n) (environment variables names resolved_names) else Ok one
 
--- how many instances of a resource there are; a local has none
+-- the number of instances of a resource; a local has 0
 abbrev pub instance_count : Option Meant → InstanceKeysView → ℕ
 instance_count (Some (a_block b)) one = 1
 instance_count (Some (a_block b)) (many n) = n
@@ -33,12 +33,12 @@ instance_count (Some (a_block b)) (named names) = length names
 instance_count (Some (a_local e)) shape = 0
 instance_count None shape = 0
 
--- how many instances there are of the names before a place
+-- the number of instances of the names before a place
 abbrev pub instances_before : List NameView → (ℕ → InstanceKeysView) → ℕ → ℕ
 instances_before names shapes zero = 0
 instances_before names shapes (suc n) = instances_before names shapes n + instance_count (meant_at names n) (shapes n)
 
--- each name has its shape, and there aren't more instances than may be
+-- each name has its shape, and there are at most `max_instances` instances
 pub record AreExpanded (variables : Entries) (names : List NameView) (resolved_names : ℕ → ResolvedView) (shapes : ℕ → InstanceKeysView) : Type 0 where
   pub each : (n : ℕ) → n < length names → expanded variables names resolved_names n ≡ Ok (shapes n)
   pub few : instances_before names shapes (length names) ≤ max_instances
@@ -49,7 +49,7 @@ pub record IsFirstRefused (variables : Entries) (names : List NameView) (resolve
   pub refused : expanded variables names resolved_names n ≡ Err why
   pub first : (m : ℕ) → m < n → (shape : InstanceKeysView) × (expanded variables names resolved_names m ≡ Ok shape)
 
--- none is refused, and there are more instances than may be
+-- no name is refused, and there are more than `max_instances` instances
 pub record AreTooMany (variables : Entries) (names : List NameView) (resolved_names : ℕ → ResolvedView) : Type 0 where
   pub shapes : ℕ → InstanceKeysView
   pub each : (n : ℕ) → n < length names → expanded variables names resolved_names n ≡ Ok (shapes n)

@@ -8,7 +8,7 @@ use Rattle.tf_expand_keys.specs.Stages.{expansion}
 use Rattle.tf_expand_keys.specs.Resolved.{ResolvedView, AreResolvedNames}
 use Rattle.tf_expand_keys.specs.Expanding.{expanded}
 
--- Where no name needs itself and none is refused, each name stands for something.
+-- If no name needs itself and no name is refused, each name resolves.
 abbrev pub AllStandWhereNoneIsRefused : Type 0
 AllStandWhereNoneIsRefused =
     (variables : Entries) (names : List NameView) (resolved_names : ℕ → ResolvedView) (shapes : ℕ → InstanceKeysView)

@@ -12,7 +12,7 @@ use Rattle.tf_expr_eval.specs.Environment.{Environment}
 use Rattle.tf_expr_eval.specs.ExprMeaning.{meaning}
 use Rattle.tf_expr_eval.specs.Meaning.{and_then}
 
--- constants, and what other references stand for
+-- an environment in which constants hide the other references of the same name
 abbrev pub bound : List ConstantView → Environment → Environment
 bound [] env first name = env first name
 bound (c ∷ cs) env first name = if bytes_eq c.first first && bytes_eq c.name name then Ok c.value else bound cs env first name
@@ -30,8 +30,8 @@ abbrev pub is_set : Tree → Bool
 is_set (set texts) = true
 is_set _ = false
 
--- What the value of `for_each` has under a key: what a map has there, and of a set the key itself, which is one of its
--- texts.
+-- What the value of `for_each` has under a key: the value there in a map, and for a set the key itself, which is one of
+-- its texts.
 abbrev pub value_under : List ℕ → Tree → Answer
 value_under key t = if is_set t then Ok (text key) else present_value (part_at key t)
 
@@ -43,6 +43,6 @@ instance_constants (count e) (keys.number n) env = and_then (whole_value (pos n)
 instance_constants (for_each e) (keys.name key) env = and_then (meaning env e) (λ all. and_then (value_under key all) (λ t. Ok (each_key key ∷ each_value t ∷ [])))
 instance_constants _ _ env = Ok []
 
--- what the references in an instance's arguments stand for, or the fault of `for_each`
+-- the values of the references in an instance's arguments, or the fault of `for_each`
 abbrev pub instance_environment : RepetitionView → InstanceKeyView → Environment → Result Environment EvalFault
 instance_environment repetition key env = and_then (instance_constants repetition key env) (λ constants. Ok (bound constants env))

@@ -1,4 +1,4 @@
--- How the objects of a resource stand together.
+-- The shape of a resource: the keys of its instances, and how its objects are collected.
 use Rattle.std.specs.Prelude.{ℕ, List, [], ◌∷◌, map as each, Option, Some, option_map}
 use Rattle.std.specs.List.{range_with_len}
 use Rattle.std.specs.Option.{option_and_then}
@@ -6,7 +6,7 @@ use Rattle.tf_config_address.specs.ObjectId as keys
 use Rattle.tf_config_address.specs.ObjectId.{InstanceKeyView}
 use Rattle.tf_value_data.specs.Tree.{Tree, list, map, Entries, no_entries, items_of, put}
 
--- One object, a list of so many, or a map under these keys.
+-- One object, a list of the given number of objects, or a map under these keys.
 pub data InstanceKeysView : Type 0 where
   one : InstanceKeysView
   many : ℕ → InstanceKeysView
@@ -18,7 +18,7 @@ instance_keys one = keys.single ∷ []
 instance_keys (many n) = each keys.number (range_with_len 0 n)
 instance_keys (named names) = each keys.name names
 
--- the object of each key; none where a key has none
+-- the object of each key, or `None` if a key has no object
 abbrev pub objects_at : (InstanceKeyView → Option Tree) → List InstanceKeyView → Option (List Tree)
 objects_at object [] = Some []
 objects_at object (key ∷ others) = option_and_then (λ t. option_map (λ ts. t ∷ ts) (objects_at object others)) (object key)
@@ -35,8 +35,8 @@ list_of ts = list (items_of ts)
 abbrev pub map_under : List (List ℕ) → List Tree → Tree
 map_under names ts = map (put_each names ts no_entries)
 
--- What a resource stands for: the object of its only instance, the list of its instances' objects, or the map of
--- them; none where an instance has none.
+-- The value of a resource: the object of its only instance, the list of its instances' objects, or the map of them.
+-- `None` if an instance has no object.
 abbrev pub collected : InstanceKeysView → (InstanceKeyView → Option Tree) → Option Tree
 collected one object = object keys.single
 collected (many n) object = option_map list_of (objects_at object (instance_keys (many n)))

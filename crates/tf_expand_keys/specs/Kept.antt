@@ -1,4 +1,4 @@
--- What the resolved names are worked out from, and which of them are.
+-- Which names are wanted, and which of them are resolved.
 use Rattle.std.specs.Prelude.{◌≡◌, ℕ, Bool, true, false, List, None, Contains}
 use Rattle.std.specs.List.{AllByRecursion}
 use Rattle.tf_config_data.specs.Names.{NameView, directly_before}
@@ -6,11 +6,11 @@ use Rattle.tf_graph.specs.NodeSet.{has}
 use Rattle.tf_value_data.specs.Tree.{Entries}
 use Rattle.tf_expand_keys.specs.Resolved.{ResolvedView, ResourceValuesView, AreResolvedNames}
 
--- with a name all that stands directly before it is wanted
+-- if a name is wanted, all names directly before it are wanted
 abbrev pub AreClosed : List NameView → List Bool → Type 0
 AreClosed names wanted = (n : ℕ) → has wanted n ≡ true → AllByRecursion (λ a. has wanted a ≡ true) (directly_before names n)
 
--- of the names in a list the wanted ones are resolved
+-- the wanted ones of the names in a list are resolved
 abbrev pub AreResolved : ResourceValuesView → Entries → List NameView → List ℕ → List Bool → (ℕ → ResolvedView) → Type 0
 AreResolved stage variables names order wanted kept =
     (resolved_names : ℕ → ResolvedView) → AreResolvedNames stage variables names resolved_names

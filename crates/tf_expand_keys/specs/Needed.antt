@@ -4,12 +4,12 @@ use Rattle.tf_config_data.specs.Names.{NameView, Meant, a_block, meant_at}
 use Rattle.tf_config_names.specs.Needs.{needs_in}
 use Rattle.tf_config_names.specs.declared.dependence.Dependence.{Dependence}
 
--- whether what stands at a place is a resource
+-- what is at a place is a resource
 abbrev pub is_resource : Option Meant → Bool
 is_resource (Some (a_block b)) = true
 is_resource _ = false
 
--- A name of some needs the one at a place: it refers to it, or to what needs it.
+-- One of some names needs the name at a place: it refers to it, or to a name that needs it.
 pub record IsNeededBy (some : ℕ → Type 0) (d : Dependence) (n : ℕ) : Type 0 where
   pub name : ℕ
   pub is_one : some name

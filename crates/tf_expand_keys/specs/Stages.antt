@@ -1,4 +1,4 @@
--- The stages of the engine: what resources stand for in the expansion, in the plan and in the apply.
+-- The stages of the engine: what resources resolve to in the expansion, in the plan and in the apply.
 use Rattle.std.specs.Prelude.{ℕ, Option, Some, None, Result, Ok, Err}
 use Rattle.tf_config_address.specs.ObjectId.{InstanceKeyView}
 use Rattle.tf_config_data.specs.Config.{BlockView}
@@ -8,12 +8,12 @@ use Rattle.tf_expand_keys.specs.Repetition.{instances}
 use Rattle.tf_expand_keys.specs.InstanceKeys.{InstanceKeysView}
 use Rattle.tf_expand_keys.specs.Resolved.{ResourceValuesView}
 
--- what is fine
+-- the value of a result, or `None` for an error
 abbrev pub fine : {A E : Type 0} → Result A E → Option A
 fine (Ok a) = Some a
 fine (Err e) = None
 
--- In the expansion the instances are worked out, and no object is known.
+-- In the expansion the instances are computed, and no object is known.
 abbrev pub expansion : ResourceValuesView
 expansion = record { shape = λ n block env. fine (instances block.repetition env); object = λ n block env key. Some unknown }
 
@@ -21,6 +21,6 @@ expansion = record { shape = λ n block env. fine (instances block.repetition en
 abbrev pub planning : (ℕ → InstanceKeysView) → (ℕ → BlockView → Environment → InstanceKeyView → Option Tree) → ResourceValuesView
 planning shapes planned = record { shape = λ n block env. Some (shapes n); object = planned }
 
--- In the apply a resource has these instances too, and the objects that the providers answered.
+-- In the apply a resource has these instances too, with the objects that the providers answered.
 abbrev pub applying : (ℕ → InstanceKeysView) → (ℕ → InstanceKeyView → Tree) → ResourceValuesView
 applying shapes objects = record { shape = λ n block env. Some (shapes n); object = λ n block env key. Some (objects n key) }

@@ -14,33 +14,33 @@ use Rattle.tf_expand_keys.specs.InstanceKeys.{InstanceKeysView}
 use Rattle.tf_expand_keys.specs.Stages.{expansion, planning, applying, fine}
 use Rattle.tf_expand_keys.specs.Resolved.{ResolvedView, ResourceValuesView, stands, stands_at, where_all, all_stand, environment, environment_at, AreResolvedNames}
 
--- Where no name needs itself, the resolved names at a stage are one.
+-- If no name needs itself, the resolved names at a stage are unique.
 abbrev pub ResolvedNamesAreOne : Type 0
 ResolvedNamesAreOne =
     (stage : ResourceValuesView) (variables : Entries) (names : List NameView) (resolved_names others : ℕ → ResolvedView)
     → Ranked (directly_before names) → AreResolvedNames stage variables names resolved_names → AreResolvedNames stage variables names others
     → (n : ℕ) → n < length names → resolved_names n ≡ others n
 
--- Where no name needs itself, all names resolve.
+-- If no name needs itself, all names resolve.
 abbrev pub ResolvedNamesExist : Type 0
 ResolvedNamesExist =
     (stage : ResourceValuesView) (variables : Entries) (names : List NameView)
     → Ranked (directly_before names) → (resolved_names : ℕ → ResolvedView) × AreResolvedNames stage variables names resolved_names
 
--- A block stands for the same in environments that agree on what it refers to.
+-- A block resolves to the same in environments that agree on what it refers to.
 abbrev pub IsLocal : ResourceValuesView → Type 0
 IsLocal stage =
     (n : ℕ) (block : BlockView) (one other : Environment) → AgreeOn one other (block_refers block)
     → stands stage n (a_block block) one ≡ stands stage n (a_block block) other
 
--- Where a stage is local, a name stands for what it does where it sees what all names stand for.
+-- At a local stage, the rule for a name gives the same if it sees the values of all names.
 abbrev pub AllAreSeen : Type 0
 AllAreSeen =
     (stage : ResourceValuesView) (variables : Entries) (names : List NameView) (resolved_names : ℕ → ResolvedView)
     → IsLocal stage → AreResolvedNames stage variables names resolved_names → (n : ℕ) → n < length names
     → resolved_names n ≡ where_all (all_stand (seen_by resolved_names (directly_before names n))) (stands_at stage n (meant_at names n) (environment variables names resolved_names))
 
--- An object is planned from what its block refers to alone.
+-- A planned object depends only on what its block refers to.
 abbrev pub IsPlannedLocally : (ℕ → BlockView → Environment → InstanceKeyView → Option Tree) → Type 0
 IsPlannedLocally planned =
     (n : ℕ) (block : BlockView) (one other : Environment) (key : InstanceKeyView) → AgreeOn one other (block_refers block)
@@ -57,25 +57,25 @@ PlanningIsLocal =
 abbrev pub ApplyingIsLocal : Type 0
 ApplyingIsLocal = (shapes : ℕ → InstanceKeysView) (objects : ℕ → InstanceKeyView → Tree) → IsLocal (applying shapes objects)
 
--- what a name stands for at one stage refines to what it stands for at another, where both are values
+-- if a name has values at two stages, the one at the first refines to the one at the second
 abbrev pub Grows : ResolvedView → ResolvedView → Type 0
 Grows before after = (v w : Tree) → before ≡ Some (Ok v) → after ≡ Some (Ok w) → Refines v w
 
--- at each resource, where what it sees at one stage refines to what it sees at another, so does what it stands for
+-- if what a resource sees at one stage refines to what it sees at another, so does what it resolves to
 abbrev pub ResourcesGrow : ResourceValuesView → ResourceValuesView → Entries → List NameView → (ℕ → ResolvedView) → (ℕ → ResolvedView) → Type 0
 ResourcesGrow before after variables names resolved_names others =
     (n : ℕ) (block : BlockView) → meant_at names n ≡ Some (a_block block)
     → RefinesTo (environment_at variables names resolved_names n) (environment_at variables names others n)
     → Grows (stands before n (a_block block) (environment_at variables names resolved_names n)) (stands after n (a_block block) (environment_at variables names others n))
 
--- What names stand for at one stage refines to what they stand for at another; so does what references stand for, all
--- of them and those of each name.
+-- The values of names at one stage refine to those at another. So do the values of references, all of them and those of
+-- each name.
 pub record HaveGrown (variables : Entries) (names : List NameView) (resolved_names others : ℕ → ResolvedView) : Type 0 where
   pub each : (n : ℕ) → n < length names → Grows (resolved_names n) (others n)
   pub references : RefinesTo (environment variables names resolved_names) (environment variables names others)
   pub seen : (n : ℕ) → n < length names → RefinesTo (environment_at variables names resolved_names n) (environment_at variables names others n)
 
--- Where resources grow from one stage to another, all that names stand for does.
+-- If resources grow from one stage to another, the values of all names do.
 abbrev pub ResolvedNamesGrow : Type 0
 ResolvedNamesGrow =
     (before after : ResourceValuesView) (variables : Entries) (names : List NameView) (resolved_names others : ℕ → ResolvedView)
@@ -83,13 +83,13 @@ ResolvedNamesGrow =
     → ResourcesGrow before after variables names resolved_names others
     → HaveGrown variables names resolved_names others
 
--- each resource has the shape that the expansion works out, where it works one out
+-- each resource has the shape that the expansion computes, if it computes one
 abbrev pub AreExpanded : Entries → List NameView → (ℕ → ResolvedView) → (ℕ → InstanceKeysView) → Type 0
 AreExpanded variables names resolved_names shapes =
     (n : ℕ) (block : BlockView) (shape : InstanceKeysView) → meant_at names n ≡ Some (a_block block)
     → fine (instances block.repetition (environment_at variables names resolved_names n)) ≡ Some shape → shapes n ≡ shape
 
--- What names stand for in the expansion refines to what they stand for in a plan with the expansion's instances.
+-- The values of names in the expansion refine to those in a plan with the expansion's instances.
 abbrev pub ExpansionGrows : Type 0
 ExpansionGrows =
     (variables : Entries) (names : List NameView) (shapes : ℕ → InstanceKeysView) (planned : ℕ → BlockView → Environment → InstanceKeyView → Option Tree)
@@ -104,7 +104,7 @@ AreAnswered variables names planned objects resolved_names =
     (n : ℕ) (block : BlockView) (key : InstanceKeyView) (t : Tree) → meant_at names n ≡ Some (a_block block)
     → planned n block (environment_at variables names resolved_names n) key ≡ Some t → Refines t (objects n key)
 
--- What names stand for in a plan refines to what they stand for in an apply whose providers answered what was planned.
+-- The values of names in a plan refine to those in an apply whose providers answered what was planned.
 abbrev pub PlanGrows : Type 0
 PlanGrows =
     (variables : Entries) (names : List NameView) (shapes : ℕ → InstanceKeysView) (planned : ℕ → BlockView → Environment → InstanceKeyView → Option Tree)
@@ -113,13 +113,13 @@ PlanGrows =
     → AreAnswered variables names planned objects resolved_names
     → HaveGrown variables names resolved_names others
 
--- Where `count` or `for_each` has a value at a later stage too, the instances are the same.
+-- If `count` or `for_each` has a value at a later stage too, the instances are the same.
 abbrev pub InstancesStay : Type 0
 InstancesStay =
     (repetition : RepetitionView) (one other : Environment) (shape later : InstanceKeysView) → RefinesTo one other
     → instances repetition one ≡ Ok shape → instances repetition other ≡ Ok later → shape ≡ later
 
--- What an instance's arguments see refines where what its block sees does.
+-- If what a block sees refines, what its instance's arguments see refines too.
 abbrev pub InstanceEnvironmentsGrow : Type 0
 InstanceEnvironmentsGrow =
     (repetition : RepetitionView) (key : InstanceKeyView) (one other before after : Environment) → RefinesTo one other

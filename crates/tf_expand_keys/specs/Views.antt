@@ -1,4 +1,4 @@
--- Shapes and resolved names without where they lie in memory.
+-- Shapes and resolved names as plain data.
 use Rattle.std.specs.Prelude.{ℕ, List, map, slice_index_or, Some, None, Result, Ok, Err, string_bytes}
 use Rattle.tf_expr_operators.specs.Bounded.{bounded_tree}
 use Rattle.tf_expand_keys.specs.InstanceKeys.{InstanceKeysView, one, many, named}
@@ -19,7 +19,7 @@ resolved_of Nothing = None
 resolved_of (Value b) = Some (Ok (bounded_tree b))
 resolved_of (Fault why) = Some (Err why)
 
--- what stands at each place of a list of resolved names; past its end nothing does
+-- what each place of a list resolves to; past its end nothing does
 abbrev pub resolved_names_of : List Resolved → ℕ → ResolvedView
 resolved_names_of resolved_names n = slice_index_or (map resolved_of resolved_names) n None
 
@@ -27,7 +27,7 @@ resolved_names_of resolved_names n = slice_index_or (map resolved_of resolved_na
 abbrev pub shapes_of : List InstanceKeys → ℕ → InstanceKeysView
 shapes_of shapes n = slice_index_or (map shape_of shapes) n one
 
--- the instances that are worked out, or why they can't be told
+-- the instances that are computed, or why they can't be
 abbrev pub worked_out : Result InstanceKeys RepetitionFault → Result InstanceKeysView RepetitionFault
 worked_out (Ok shape) = Ok (shape_of shape)
 worked_out (Err why) = Err why

@@ -1,4 +1,4 @@
--- What contracts of the crates above cite of this crate and of those below, from one place.
+-- What contracts of higher-level crates cite of this crate and of lower-level ones, collected in one place.
 pub use Rattle.tf_config_data.specs.Words.{block_at, directly_before, instance_key_of, addr_of, ResourceAddrView, meant_at, named_by, places, put, repetition_of, Tree}
 pub use Rattle.tf_config_data.specs.Config.{lifecycle_of}
 pub use Rattle.tf_expand_keys.specs.Kept.{AreResolved, OnlyWanted}

@@ -23,16 +23,16 @@ pub trait Keyed {
 
     ghost object: { Self → InstanceKeyView → Option Tree };
 
-    /// The object of an instance; none where it is refused.
+    /// Returns the object of an instance, or `None` if it is refused.
     ///
     /// # Errors
     ///
-    /// Only where memory runs out.
+    /// Fails only if memory runs out.
     fn object(&self, alloc: Global, key: &InstanceKey) -> Result<Option<Value>, AllocError>
         ensures { IfOk result (λ value. option_map tree_of value ≡ object self.now (instance_key_of key.now)) };
 }
 
-/// What a resource stands for: its objects as its shape says.
+/// Collects the objects of a resource into its value, as its shape says.
 pub fn collect_instances<K: Keyed>(
     alloc: Global,
     shape: &InstanceKeys,
@@ -50,7 +50,7 @@ pub fn collect_instances<K: Keyed>(
     }
 }
 
-/// What a resource stands for whose objects together are this value.
+/// Resolves a resource to the value of its objects, or to a fault if the value exceeds the limits.
 fn measured(value: Option<Value>) -> Resolved
     ensures { resolved_of result ≡ option_map limited_value (option_map tree_of value) }
 {
@@ -63,7 +63,7 @@ fn measured(value: Option<Value>) -> Resolved
     }
 }
 
-/// The list of the objects of these instances; none where one is refused.
+/// Returns the list of the objects of these instances, or `None` if one is refused.
 fn listed<K: Keyed>(
     alloc: Global,
     keys: &[InstanceKey],
@@ -81,7 +81,7 @@ fn listed<K: Keyed>(
     Ok(Some(Value::List(objects)))
 }
 
-/// The map of the objects of the instances with these names; none where one is refused.
+/// Returns the map of the objects of the instances with these names, or `None` if one is refused.
 fn mapped<K: Keyed>(alloc: Global, names: &[String], keyed: &K) -> Result<Option<Value>, AllocError>
     ensures { IfOk result (λ value. option_map tree_of value
         ≡ option_map (map_under (each string_bytes names.now)) (objects_at (K.object keyed.now) (each keys.name (each string_bytes names.now)))) }

@@ -1,4 +1,4 @@
-//! Values of expressions, apart from want of memory.
+//! Values of expressions, with out of memory as an error of its own.
 
 ghost use Rattle.std.specs.Prelude.{IfOk};
 ghost use Rattle.tf_expr_operators.specs.Found.{FindsExactly};
@@ -9,7 +9,8 @@ use std::alloc::{AllocError, Global};
 use tf_expr_eval::{EvalFault, Found, Scope, find_expr};
 use tf_expr_syntax::Expr;
 
-/// The value or the fault of an expression, for who only reads it. Want of memory is no fault, and leaves at once.
+/// Returns the value or the fault of an expression, borrowing the value if possible. Out of memory is not a fault: the
+/// function returns it as its error.
 pub(crate) fn valued<'a, S: Scope>(
     alloc: Global,
     expr: &Expr,

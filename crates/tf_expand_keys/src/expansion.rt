@@ -19,12 +19,12 @@ use tf_config_names::{Declaration, Declarations};
 /// The most instances that a configuration may have.
 pub const MAX_INSTANCES: u64 = 2000;
 
-/// Why the instances of a configuration can't be told.
+/// Why the instances of a configuration can't be computed.
 #[derive(Clone, Copy, Debug, PartialEq, Eq)]
 pub enum ExpansionFault {
     /// Memory ran out.
     OutOfMemory,
-    /// The first resource that is refused, by the place of its name, and why.
+    /// The first resource that is refused, given by the place of its name, and why.
     Resource(usize, RepetitionFault),
     /// There are more instances than `MAX_INSTANCES`.
     TooMany,
@@ -46,12 +46,12 @@ impl<T: Drop> From<AllocFailed<T>> for ExpansionFault {
     }
 }
 
-/// How the instances of each resource stand together, by the place of its name.
+/// Computes the instance keys of each resource, indexed by the place of its name.
 ///
 /// # Errors
 ///
-/// The first resource by address whose `count` or `for_each` is refused, among those that need none that is refused;
-/// `TooMany` where there are more instances than `MAX_INSTANCES`; and `OutOfMemory`.
+/// Fails with the first resource by address whose `count` or `for_each` is refused, among those that need no refused
+/// resource, with `TooMany` if there are more instances than `MAX_INSTANCES`, and with `OutOfMemory`.
 pub fn expand(alloc: Global, declared: &Module) -> Result<Vec<InstanceKeys>, ExpansionFault>
     ensures { (resolved_names : ℕ → ResolvedView)
         → AreResolvedNames expansion (entries_view declared.now.variables.now.entries) (names_in declared.now.names.now) resolved_names
@@ -66,8 +66,8 @@ pub fn expand(alloc: Global, declared: &Module) -> Result<Vec<InstanceKeys>, Exp
     Ok(shapes)
 }
 
-/// What the names that resources need stand for in the expansion. At any other place nothing stands: no local is evaluated
-/// that no resource needs, and no value is made of the objects of a resource to which no name refers.
+/// Resolves the names that resources need, in the expansion. No other name resolves: a local that no resource needs
+/// isn't evaluated, and the objects of a resource to which no name refers aren't collected.
 fn resolve_needed(alloc: Global, declared: &Module) -> Result<Vec<Resolved>, AllocError>
     ensures { IfOk result (λ kept. AreNeededNamesResolved (entries_view declared.now.variables.now.entries) (names_in declared.now.names.now) declared.now.dependence.now (resolved_names_of kept.items)) }
 {
@@ -77,7 +77,7 @@ fn resolve_needed(alloc: Global, declared: &Module) -> Result<Vec<Resolved>, All
     Ok(kept)
 }
 
-/// The shape of each name, by what those that it refers to stand for; or the first that is refused.
+/// Returns the shape of each name, by the values of the names that it refers to, or the first name that is refused.
 fn shapes_by(
     alloc: Global,
     declared: &Module,
@@ -95,7 +95,7 @@ fn shapes_by(
     Ok(shapes)
 }
 
-/// The shape of the name at a place, or why it is refused.
+/// Returns the shape of the name at a place, or why it is refused.
 fn shape_at(
     alloc: Global,
     declared: &Module,
@@ -122,7 +122,7 @@ fn shape_at(
     }
 }
 
-/// How many instances there are; all counts beyond what a `u64` can say are as many.
+/// Counts the instances. Counts beyond the largest `u64` are returned as the largest `u64`.
 fn count(names: &Declarations, shapes: &[InstanceKeys]) -> u64
     requires { length shapes.now ≡ length (names_in names.now) }
     ensures { result ≡ min (instances_before (names_in names.now) (shapes_of shapes.now) (length (names_in names.now))) 18446744073709551615 }
@@ -134,7 +134,7 @@ fn count(names: &Declarations, shapes: &[InstanceKeys]) -> u64
     total
 }
 
-/// How many instances of a name there are.
+/// Counts the instances of a name.
 fn count_at(named: Declaration, shape: &InstanceKeys) -> u64
     ensures { result ≡ instance_count (Some (declaration_of named.entry).meant) (shape_of shape.now) }
 {

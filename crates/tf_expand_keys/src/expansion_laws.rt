@@ -2,7 +2,7 @@
 
 ghost use Rattle.tf_expand_keys.specs.ExpansionLaws.{AllStandWhereNoneIsRefused};
 
-/// Where no resource is refused, each name stands for something.
+/// If no resource is refused, each name resolves.
 pub fn all_stand_where_none_is_refused()
     ensures { AllStandWhereNoneIsRefused }
 {}

@@ -22,7 +22,7 @@ use tf_value_data::Value;
 pub struct InstanceScope<'a, S> {
     /// The constants.
     pub constants: &'a Constants,
-    /// What other references stand for.
+    /// The scope of all other references.
     pub around: &'a S,
 }
 
@@ -41,12 +41,13 @@ impl<S: Scope> Scope for InstanceScope<'_, S> {
     }
 }
 
-/// The constants of an instance: `count.index` for one with a number, `each.key` and `each.value` for one with a name.
+/// Builds the constants of an instance: `count.index` for one with a number, `each.key` and `each.value` for one with a
+/// name.
 ///
 /// # Errors
 ///
-/// The fault of `for_each`, which is evaluated for `each.value`; `Missing` where it has nothing under the key;
-/// `Overflow` for a number beyond the whole numbers; and `OutOfMemory`.
+/// Fails with the fault of `for_each`, which is evaluated for `each.value`, with `Missing` if its value has nothing
+/// under the key, with `Overflow` if the number exceeds the whole numbers, and with `OutOfMemory`.
 pub fn instance_constants<S: Scope>(
     alloc: Global,
     repetition: &Repetition,
@@ -67,7 +68,7 @@ pub fn instance_constants<S: Scope>(
     }
 }
 
-/// `count.index` of an instance with this number.
+/// Returns `count.index` of the instance with this number.
 fn numbered(alloc: Global, number: u64) -> Result<Constants, EvalFault>
     ensures { GivesAs constants_of (and_then (whole_value (pos number)) (λ t. Ok (count_index t ∷ []))) result }
 {
@@ -77,7 +78,7 @@ fn numbered(alloc: Global, number: u64) -> Result<Constants, EvalFault>
     })
 }
 
-/// A whole number as a value.
+/// Returns a whole number as a value.
 fn whole(number: u64) -> Result<Value, EvalFault>
     ensures { Gives (whole_value (pos number)) result }
 {
@@ -87,7 +88,7 @@ fn whole(number: u64) -> Result<Value, EvalFault>
     }
 }
 
-/// What the value of `for_each` has under a key.
+/// Returns what the value of `for_each` has under a key.
 fn value_at(all: &Value, key: &String) -> Result<Value, EvalFault>
     ensures { Gives (value_under (string_bytes key.now) (tree_of all.now)) result }
 {
@@ -106,7 +107,7 @@ fn is_set(value: &Value) -> bool
     matches!(value, Value::Set(_))
 }
 
-/// `each.key` and `each.value` of an instance.
+/// Returns `each.key` and `each.value` of an instance.
 fn named(alloc: Global, key: &String, value: Value) -> Result<Constants, EvalFault>
     ensures { GivesAs constants_of (Ok (each_key (string_bytes key.now) ∷ each_value (tree_of value) ∷ [])) result }
 {
@@ -117,7 +118,7 @@ fn named(alloc: Global, key: &String, value: Value) -> Result<Constants, EvalFau
     })
 }
 
-/// A value under a name.
+/// Builds the constant with a value under a name.
 fn constant(alloc: Global, first: &str, name: &str, value: Value) -> Result<Constant, AllocError>
     ensures { IfOk result (λ c. constant_of c ≡ record { first = first.now; name = name.now; value = tree_of value }) }
 {

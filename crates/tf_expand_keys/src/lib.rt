@@ -1,10 +1,10 @@
-//! What the names of a configuration stand for at each stage of the engine, and the instances of its resources.
+//! The values of a configuration's names at each stage of the engine, and the instances of its resources.
 //!
-//! In the expansion a resource stands for objects of which nothing is known but how many there are, in the plan for planned
-//! objects, and in the apply for what the providers answered. One rule says what each name stands for by what stands directly
-//! before it; a stage says only how the objects of a resource stand together and what each is. By it `expand` tells the
-//! instances of each resource, or why there are none. What is known of what names stand for only grows from stage to stage
-//! (`standing_laws`).
+//! In the expansion the number of a resource's objects is known, and nothing else about them. In the plan its value
+//! consists of the planned objects, and in the apply of the objects that the providers answered. One rule gives the
+//! value of each name by the values of the names directly before it. A stage only defines the shape of a resource and
+//! each of its objects. By this rule `expand` computes the instances of each resource, or reports why it can't.
+//! Knowledge of values only grows from stage to stage (`standing_laws`).
 #![tactic(auto)]
 
 mod collecting;

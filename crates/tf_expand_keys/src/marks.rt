@@ -6,11 +6,11 @@ ghost use Rattle.tf_graph.specs.NodeSet.{has};
 
 use std::alloc::{AllocError, Global};
 
-/// As many places, none of which is marked.
+/// Returns `count` places without a mark.
 ///
 /// # Errors
 ///
-/// Only where memory runs out.
+/// Fails only if memory runs out.
 pub fn none_marked(alloc: Global, count: usize) -> Result<Vec<bool>, AllocError>
     ensures { IfOk result (λ marked. marked.items ≡ replicate count false) }
 {
@@ -28,7 +28,7 @@ pub fn mark(marked: &mut [bool], places: &[usize])
     }
 }
 
-/// Whether a place is marked.
+/// Checks whether a place is marked.
 pub fn is_marked(marked: &[bool], place: usize) -> bool
     ensures { result ≡ has marked.now place }
 {

@@ -8,11 +8,11 @@ use crate::table::Module;
 use std::alloc::{AllocError, Global};
 use tf_config_names::{Declaration, Declarations, Dependence};
 
-/// For each place, whether a resource needs the name there.
+/// Returns for each place whether a resource needs the name there.
 ///
 /// # Errors
 ///
-/// Only where memory runs out.
+/// Fails only if memory runs out.
 pub fn needed_by_resources(alloc: Global, declared: &Module) -> Result<Vec<bool>, AllocError>
     ensures { IfOk result (λ needed. (n : ℕ) → n < length (names_in declared.now.names.now)
         → (has needed.items n ≡ true) ↔ IsNeeded (names_in declared.now.names.now) declared.now.dependence.now n) }
@@ -21,11 +21,11 @@ pub fn needed_by_resources(alloc: Global, declared: &Module) -> Result<Vec<bool>
     needed_by(alloc, declared.parts.dependence, asking.as_slice())
 }
 
-/// For each place, whether one of the names that are marked needs the name there.
+/// Returns for each place whether a marked name needs the name there.
 ///
 /// # Errors
 ///
-/// Only where memory runs out.
+/// Fails only if memory runs out.
 pub fn needed_by(
     alloc: Global,
     dependence: &Dependence,
@@ -42,7 +42,7 @@ pub fn needed_by(
     Ok(needed)
 }
 
-/// Whether one of the names that are marked needs the one at a place.
+/// Checks whether a marked name needs the one at a place.
 fn is_needed(dependence: &Dependence, marked: &[bool], place: usize) -> bool
     ensures { (result ≡ true) ↔ IsNeededBy (λ a. has marked.now a ≡ true) dependence.now place }
 {
@@ -59,7 +59,7 @@ fn is_needed(dependence: &Dependence, marked: &[bool], place: usize) -> bool
     false
 }
 
-/// For each place, whether a resource stands there.
+/// Returns for each place whether the name there is a resource.
 fn resources(alloc: Global, names: &Declarations) -> Result<Vec<bool>, AllocError>
     ensures { IfOk result (λ found. (n : ℕ) → has found.items n ≡ is_resource (meant_at (names_in names.now) n)) }
 {
@@ -70,7 +70,7 @@ fn resources(alloc: Global, names: &Declarations) -> Result<Vec<bool>, AllocErro
     Ok(found)
 }
 
-/// Whether a name is a resource.
+/// Checks whether a name is a resource.
 fn is_resource(named: Declaration) -> bool
     ensures { result ≡ is_resource (Some (declaration_of named.entry).meant) }
 {

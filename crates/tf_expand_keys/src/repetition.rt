@@ -14,7 +14,7 @@ use tf_config_data::Repetition;
 use tf_expr_eval::{EvalFault, Scope};
 use tf_value_data::Value;
 
-/// Why the instances of a resource can't be told.
+/// Why the instances of a resource can't be computed.
 #[derive(Clone, Copy, Debug, PartialEq, Eq)]
 pub enum RepetitionFault {
     /// `count` isn't a whole number of 0 or more.
@@ -27,12 +27,11 @@ pub enum RepetitionFault {
     Evaluation(EvalFault),
 }
 
-/// How the instances of a resource stand together, where references stand for what the scope says; or why that can't
-/// be told.
+/// Computes the instance keys of a resource in a scope, or why it is refused.
 ///
 /// # Errors
 ///
-/// Only where memory runs out.
+/// Fails only if memory runs out.
 pub(crate) fn instances<S: Scope>(
     alloc: Global,
     repetition: &Repetition,
@@ -53,7 +52,7 @@ pub(crate) fn instances<S: Scope>(
     }
 }
 
-/// The instances of a `count` with this value.
+/// Returns the instances of a `count` with this value.
 fn counted(value: &Value) -> Result<InstanceKeys, RepetitionFault>
     ensures { worked_out result ≡ counted_shape (Ok (tree_of value.now)) }
 {
@@ -67,7 +66,7 @@ fn counted(value: &Value) -> Result<InstanceKeys, RepetitionFault>
     }
 }
 
-/// The instances of a `for_each` with this value.
+/// Returns the instances of a `for_each` with this value.
 fn keyed(alloc: Global, value: &Value) -> Result<Result<InstanceKeys, RepetitionFault>, AllocError>
     ensures { IfOk result (λ shape. worked_out shape ≡ keyed_shape (Ok (tree_of value.now))) }
 {
@@ -80,7 +79,7 @@ fn keyed(alloc: Global, value: &Value) -> Result<Result<InstanceKeys, Repetition
     }
 }
 
-/// The keys of what `for_each` may be; none of what it may not.
+/// Returns the keys of a map or the texts of a set, or `None` for other values, which `for_each` doesn't accept.
 fn names(alloc: Global, value: &Value) -> Result<Option<Vec<String>>, AllocError>
     ensures { IfOk result (λ names. option_map (λ v. each string_bytes v.items) names ≡ names_in (tree_of value.now)) }
 {
@@ -91,7 +90,7 @@ fn names(alloc: Global, value: &Value) -> Result<Option<Vec<String>>, AllocError
     }
 }
 
-/// The keys of a map.
+/// Returns the keys of a map.
 fn keys(alloc: Global, entries: &BTreeMap<String, Value>) -> Result<Vec<String>, AllocError>
     ensures { IfOk result (λ names. each string_bytes names.items ≡ keys_of (entries_view entries.now.entries)) }
 {
@@ -102,7 +101,7 @@ fn keys(alloc: Global, entries: &BTreeMap<String, Value>) -> Result<Vec<String>,
     Ok(names)
 }
 
-/// The texts of a set.
+/// Returns the texts of a set.
 fn texts(alloc: Global, set: &BTreeSet<String>) -> Result<Vec<String>, AllocError>
     ensures { IfOk result (λ names. each string_bytes names.items ≡ texts_view set.now.keys) }
 {

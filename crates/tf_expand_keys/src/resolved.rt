@@ -1,4 +1,4 @@
-//! What names stand for.
+//! The values of names.
 
 ghost use Rattle.std.specs.Prelude.{◌≡◌, IfOk, Some, is_some};
 ghost use Rattle.tf_expr_eval.specs.Meaning.{and_then};
@@ -11,19 +11,19 @@ use tf_expr_eval::{Bounded, EvalFault, Scope, eval_bounded};
 use tf_expr_syntax::Expr;
 use tf_value_data::Value;
 
-/// What a local or a resource stands for.
+/// What a local or a resource resolves to.
 #[derive(Debug, Drop)]
 pub enum Resolved {
-    /// Nothing: the resource is refused, or something that it needs is.
+    /// Nothing: the resource is refused, or a name that it needs doesn't resolve.
     Nothing,
     /// A value, which is within the limits.
     Value(Bounded),
-    /// A fault, which is the fault of whoever refers to it. Want of memory is none.
+    /// A fault, reported at every reference. Out of memory is not one.
     Fault(EvalFault),
 }
 
 impl Resolved {
-    /// Whether there is a value or a fault.
+    /// Checks whether there is a value or a fault.
     pub fn is_there(&self) -> bool
         ensures { result ≡ is_some (resolved_of self.now) }
     {
@@ -33,11 +33,11 @@ impl Resolved {
         }
     }
 
-    /// The value where it stands.
+    /// Borrows the value.
     ///
     /// # Errors
     ///
-    /// The fault, and `Missing` where there is nothing.
+    /// Fails with the fault, or with `Missing` if there is nothing.
     pub fn shown(&self) -> Result<&Value, EvalFault>
         ensures { Shows (and_then (or_missing (resolved_of self.now)) limited) result }
     {
@@ -49,11 +49,11 @@ impl Resolved {
     }
 }
 
-/// What a local stands for: what its expression means.
+/// Evaluates the expression of a local.
 ///
 /// # Errors
 ///
-/// Only where memory runs out.
+/// Fails only if memory runs out.
 pub fn evaluated<S: Scope>(alloc: Global, expr: &Expr, scope: &S) -> Result<Resolved, AllocError>
     ensures { IfOk result (λ resolved. resolved_of resolved ≡ Some (meaning (S.environment scope.now) (expr_of expr.now))) }
 {

@@ -1,4 +1,4 @@
-//! What references stand for, by the resolved names.
+//! The scope of the resolved names.
 
 ghost use Rattle.tf_config_names.specs.Table.{names_in};
 ghost use Rattle.tf_expr_eval.specs.Meaning.{and_then};
@@ -15,14 +15,14 @@ use tf_expr_operators::limited_at;
 use tf_expr_syntax::Reference;
 use tf_value_data::{Value, find};
 
-/// What references stand for: variables for their values, locals and resources for what they stand for.
+/// A scope in which variables have their values, and locals and resources what they resolve to.
 #[derive(Drop)]
 pub struct NamesScope<'a, 'n> {
     /// The variables' values by name.
     pub variables: &'a BTreeMap<String, Value>,
     /// The names of locals and resources.
     pub names: &'a Declarations<'n>,
-    /// What stands at the place of each name.
+    /// What each name resolves to, by its place.
     pub resolved_names: &'a [Resolved],
 }
 
@@ -42,7 +42,7 @@ impl Scope for NamesScope<'_, '_> {
     }
 }
 
-/// The value at a place, where it stands; `Missing` where there is none.
+/// Borrows the value at a place. Fails with `Missing` if there is no place or nothing at it, and with the fault there.
 fn shown_at(resolved_names: &[Resolved], place: Option<usize>) -> Result<&Value, EvalFault>
     ensures { Shows (and_then (answer_at (resolved_names_of resolved_names.now) place) limited) result }
 {

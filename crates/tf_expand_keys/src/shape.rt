@@ -1,4 +1,4 @@
-//! How the objects of a resource stand together.
+//! The instance keys of a resource.
 
 ghost use Rattle.std.specs.Prelude.{◌≡◌, IfOk, map as each, string_bytes};
 ghost use Rattle.tf_config_address.specs.ObjectId.{instance_key_of};
@@ -8,23 +8,23 @@ ghost use Rattle.tf_expand_keys.specs.Views.{shape_of};
 use std::alloc::{AllocError, Global};
 use tf_config_address::InstanceKey;
 
-/// How the objects of a resource stand together.
+/// The shape of a resource: the keys of its instances, which decide how its objects are collected.
 #[derive(Debug, Drop)]
 pub enum InstanceKeys {
     /// One object, without a key.
     One,
-    /// A list of so many.
+    /// A list of the given number of objects.
     Many(u64),
     /// A map under these keys.
     Named(Vec<String>),
 }
 
 impl InstanceKeys {
-    /// The keys of the instances, in order.
+    /// Returns the keys of the instances, in order.
     ///
     /// # Errors
     ///
-    /// Only where memory runs out.
+    /// Fails only if memory runs out.
     pub fn keys(&self, alloc: Global) -> Result<Vec<InstanceKey>, AllocError>
         ensures { IfOk result (λ keys. each instance_key_of keys.items ≡ instance_keys (shape_of self.now)) }
     {
@@ -36,7 +36,7 @@ impl InstanceKeys {
     }
 }
 
-/// The keys from 0 on, as many as the count says.
+/// Returns the given number of keys, from 0 on.
 fn numbers(alloc: Global, count: u64) -> Result<Vec<InstanceKey>, AllocError>
     ensures { IfOk result (λ keys. each instance_key_of keys.items ≡ instance_keys (many count)) }
 {
@@ -47,7 +47,7 @@ fn numbers(alloc: Global, count: u64) -> Result<Vec<InstanceKey>, AllocError>
     Ok(keys)
 }
 
-/// The keys of these names.
+/// Returns the keys with these names.
 fn keys_named(alloc: Global, names: &Vec<String>) -> Result<Vec<InstanceKey>, AllocError>
     ensures { IfOk result (λ keys. each instance_key_of keys.items ≡ instance_keys (named (each string_bytes names.now.items))) }
 {

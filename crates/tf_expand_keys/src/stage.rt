@@ -19,7 +19,7 @@ use tf_expr_eval::Scope;
 use tf_expr_syntax::EvalFault;
 use tf_value_data::Value;
 
-/// A resource, and what references stand for where it is looked at.
+/// A resource, and the scope of the references in its block.
 #[derive(Drop)]
 pub struct ResourceInScope<'a, S> {
     /// The place of its name.
@@ -28,19 +28,19 @@ pub struct ResourceInScope<'a, S> {
     pub addr: &'a ResourceAddr,
     /// Its block.
     pub block: &'a Block,
-    /// What references stand for.
+    /// The values of references.
     pub scope: &'a S,
 }
 
-/// A stage of the engine: what a resource stands for.
+/// A stage of the engine: how resources resolve.
 pub trait ResourceValues {
     ghost stage: { Self → ResourceValuesView };
 
-    /// What a resource stands for.
+    /// Resolves a resource.
     ///
     /// # Errors
     ///
-    /// Only where memory runs out.
+    /// Fails only if memory runs out.
     fn resolve<S: Scope>(
         &self,
         alloc: Global,
@@ -50,7 +50,7 @@ pub trait ResourceValues {
             ≡ stands (stage self.now) resource.now.place (a_block (block_at (addr_of resource.now.addr.now) resource.now.block.now)) (S.environment resource.now.scope.now)) };
 }
 
-/// The expansion: the instances are worked out, and no object is known.
+/// The expansion: it computes the instances, and no object is known.
 #[derive(Clone, Copy, Debug)]
 pub(crate) struct Expansion;
 
@@ -65,7 +65,7 @@ impl Keyed for Unknowns {
     }
 }
 
-/// So many unknown objects are too large a list.
+/// A list of this many unknown objects, or more, is too large.
 const TOO_MANY: u64 = 1_000_000;
 
 impl ResourceValues for Expansion {
@@ -83,7 +83,8 @@ impl ResourceValues for Expansion {
     }
 }
 
-/// What a resource stands for of whose objects nothing is known. No list is made of more than the limits let be.
+/// Resolves a resource whose objects are unknown. A list of `TOO_MANY` objects or more isn't built: it is the fault
+/// `TooLarge`.
 fn unknown_objects(alloc: Global, shape: &InstanceKeys) -> Result<Resolved, AllocError>
     ensures { IfOk result (λ resolved. resolved_of resolved ≡ together (Some (shape_of shape.now)) (λ _. Some unknown)) }
 {
@@ -97,12 +98,12 @@ fn unknown_objects(alloc: Global, shape: &InstanceKeys) -> Result<Resolved, Allo
 pub trait Objects {
     ghost planned: { Self → ℕ → BlockView → Environment → InstanceKeyView → Option Tree };
 
-    /// The object of an instance, by the place of its resource's name, the block, and what references stand for; none
-    /// where it is refused.
+    /// Returns the object of an instance, or `None` if it is refused. It sees the place of the resource's name, the
+    /// block, and the values of references.
     ///
     /// # Errors
     ///
-    /// Only where memory runs out.
+    /// Fails only if memory runs out.
     fn object<S: Scope>(
         &self,
         alloc: Global,
@@ -116,7 +117,7 @@ pub trait Objects {
 /// The plan and the apply: each resource has the instances that the expansion gave it, and their objects.
 #[derive(Drop)]
 pub struct ExpandedValues<'a, O> {
-    /// How the instances of each resource stand together, by the place of its name.
+    /// The shape of each resource, by the place of its name.
     pub shapes: &'a [InstanceKeys],
     /// The objects.
     pub objects: &'a O,

@@ -1,4 +1,4 @@
-//! Laws on what names stand for.
+//! Laws on the values of names.
 
 ghost use Rattle.tf_expand_keys.specs.StandingLaws.{AllAreSeen, ApplyingIsLocal, ExpansionGrows, ExpansionIsLocal, InstanceEnvironmentsGrow, InstancesStay, PlanGrows, PlanningIsLocal, ResolvedNamesAreOne, ResolvedNamesExist, ResolvedNamesGrow};
 
@@ -6,13 +6,13 @@ use tf_expr_eval::{expr_knowledge_grows, meaning_is_local};
 use tf_graph::laws::{solution_exists, solution_is_unique};
 use tf_value_data::refinement_is_an_order;
 
-/// Where no name needs itself, all names resolve at each stage, and in one way.
+/// If no name needs itself, all names resolve at each stage, and in one way.
 pub fn resolved_names_are_one()
     ensures one { ResolvedNamesAreOne }
     ensures exist { ResolvedNamesExist }
 {}
 
-/// At each stage a block stands for the same wherever what it refers to does.
+/// At each stage the value of a block depends only on the values of what it refers to.
 pub fn stages_are_local()
     ensures expansion { ExpansionIsLocal }
     ensures planning { PlanningIsLocal }
@@ -22,7 +22,7 @@ pub fn stages_are_local()
     meaning_is_local();
 }
 
-/// What is known of what names stand for only grows from one stage to the next.
+/// Knowledge of the values of names only grows from one stage to the next.
 pub fn resolved_names_grow()
     ensures resolved_names { ResolvedNamesGrow }
     ensures expansion { ExpansionGrows }
@@ -32,7 +32,7 @@ pub fn resolved_names_grow()
     expr_knowledge_grows();
 }
 
-/// The instances of a resource stay from stage to stage, and what each of them sees only grows.
+/// The instances of a resource stay from stage to stage, and knowledge of what each of them sees only grows.
 pub fn instances_stay()
     ensures instances { InstancesStay }
     ensures environments { InstanceEnvironmentsGrow }

@@ -1,4 +1,4 @@
-//! What all names of a configuration stand for at a stage.
+//! The values of all names of a configuration at a stage.
 
 ghost use Rattle.std.specs.Prelude.{◌≡◌, ◌<◌, ℕ, IfOk, None, if◌then◌else◌, is_some, length, Contains};
 ghost use Rattle.tf_config_data.specs.Names.{directly_before, meant_at};
@@ -33,9 +33,9 @@ pub struct ModuleParts<'a, 'n> {
     pub dependence: &'a Dependence,
 }
 
-/// What a configuration declares, and the values of its variables: which of its names needs which is said of these very
-/// names, and none needs itself, which is this type's invariant (`IsModule`). So whoever is given one needn't ask for that.
-/// Contracts see the parts.
+/// The names that a configuration declares, and the values of its variables. This type's invariant (`IsModule`) says
+/// that the dependence is that of these names, and that no name needs itself. So a function that takes a module need
+/// not require this. Contracts see the parts.
 #[derive(Drop)]
 pub struct Module<'a, 'n> {
     /// The parts.
@@ -57,13 +57,13 @@ impl<'a, 'n> Model for Module<'a, 'n> {
     ghost invariant = { λ m. IsModule m.parts };
 }
 
-/// What each wanted name stands for at a stage, by place, where none needs itself; nothing stands at any other place.
-/// Each local is evaluated once, and none that isn't wanted. `wanted` says of each place whether it is wanted, and with
-/// a name all that it needs is.
+/// Resolves the wanted names at a stage. The result is indexed by place, and a name that isn't wanted is `Nothing`.
+/// Each wanted local is evaluated once, and no other local is evaluated. `wanted` marks places. If it marks a name, it
+/// has to mark all that the name needs.
 ///
 /// # Errors
 ///
-/// Only where memory runs out.
+/// Fails only if memory runs out.
 pub fn resolved_names<T: ResourceValues>(
     alloc: Global,
     stage: &T,
@@ -85,7 +85,7 @@ pub fn resolved_names<T: ResourceValues>(
     )
 }
 
-/// The same, of the names in a list in which each stands after all that it needs.
+/// Resolves the wanted names in a list in which each name comes after all that it needs.
 fn resolved_in_order<T: ResourceValues>(
     alloc: Global,
     stage: &T,
@@ -110,11 +110,11 @@ fn resolved_in_order<T: ResourceValues>(
     Ok(kept)
 }
 
-/// As many places, at none of which anything stands.
+/// Returns `count` names that are `Nothing`.
 ///
 /// # Errors
 ///
-/// Only where memory runs out.
+/// Fails only if memory runs out.
 pub fn unresolved_names(alloc: Global, count: usize) -> Result<Vec<Resolved>, AllocError>
     ensures length { IfOk result (λ kept. length kept.items ≡ count) }
     ensures none { IfOk result (λ kept. (n : ℕ) → resolved_names_of kept.items n ≡ None) }
@@ -126,7 +126,7 @@ pub fn unresolved_names(alloc: Global, count: usize) -> Result<Vec<Resolved>, Al
     Ok(kept)
 }
 
-/// What the name at a place stands for, by what names stand for so far; nothing where it isn't wanted.
+/// Resolves the name at a place by the names resolved so far. Returns `Nothing` if the name isn't wanted.
 fn resolve_at<T: ResourceValues>(
     alloc: Global,
     stage: &T,
@@ -148,11 +148,11 @@ fn resolve_at<T: ResourceValues>(
     resolved_at(alloc, stage, declared, kept, place)
 }
 
-/// What the name at a place stands for, by what names stand for so far.
+/// Resolves the name at a place by the names resolved so far.
 ///
 /// # Errors
 ///
-/// Only where memory runs out.
+/// Fails only if memory runs out.
 pub fn resolved_at<T: ResourceValues>(
     alloc: Global,
     stage: &T,
@@ -183,7 +183,7 @@ pub fn resolved_at<T: ResourceValues>(
     }
 }
 
-/// Whether something stands at each of these places.
+/// Checks whether each of these places resolves.
 pub fn all_stand(kept: &[Resolved], places: &[usize]) -> bool
     ensures { result ≡ all_that_stand (seen_by (resolved_names_of kept.now) places.now) }
 {
@@ -195,7 +195,7 @@ pub fn all_stand(kept: &[Resolved], places: &[usize]) -> bool
     true
 }
 
-/// Whether something stands at a place.
+/// Checks whether a place resolves.
 fn stands(kept: &[Resolved], place: usize) -> bool
     ensures { result ≡ is_some (resolved_names_of kept.now place) }
 {

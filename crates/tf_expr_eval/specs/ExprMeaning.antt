@@ -1,4 +1,4 @@
--- What expressions mean.
+-- The meaning of expressions.
 use Rattle.std.specs.Prelude.{List, [], ◌∷◌, Result, Ok}
 use Rattle.tf_value_data.specs.Tree as values
 use Rattle.tf_expr_operators.specs.Answer.{Answer, list_value, map_value}
@@ -7,8 +7,8 @@ use Rattle.tf_expr_eval.specs.Environment.{Environment}
 use Rattle.tf_expr_eval.specs.Meaning.{and_then, template_meaning}
 use Rattle.tf_expr_syntax.specs.ExprTree.{Tree, null, boolean, whole, template, list, map, Trees, no_trees, tree, Entries, no_entries, entry}
 
--- A scalar stands for itself, a text for the value of its template. A list's elements and a map's entries are
--- valued in order, the entries in byte order of their names, and the first fault is the answer.
+-- A scalar means itself, a text the value of its template. A list's elements are evaluated in order, a map's entries
+-- in byte order of their names. The first fault is the answer.
 abbrev mutual
   pub meaning : Environment → Tree → Answer
   meaning env null = Ok values.null

@@ -8,13 +8,12 @@ use Rattle.tf_expr_eval.specs.Environment.{Environment, RefinesTo}
 use Rattle.tf_expr_eval.specs.ExprMeaning.{meaning as expr_meaning}
 use Rattle.tf_expr_eval.specs.Meaning.{template_meaning}
 
--- Where one environment refines to another and a template has a value in both, the first value refines to the
--- second: what was known stays, and what wasn't may turn out.
+-- If one environment refines to another and a template has a value in both, the first value refines to the second.
 abbrev pub KnowledgeGrows : Type 0
 KnowledgeGrows = (before after : Environment) → RefinesTo before after → (template : syntax.Woven) (v w : Tree)
     → template_meaning before template ≡ Ok v → template_meaning after template ≡ Ok w → Refines v w
 
--- And so for an expression.
+-- The same law for expressions.
 abbrev pub ExprKnowledgeGrows : Type 0
 ExprKnowledgeGrows = (before after : Environment) → RefinesTo before after → (expr : exprs.Tree) (v w : Tree)
     → expr_meaning before expr ≡ Ok v → expr_meaning after expr ≡ Ok w → Refines v w

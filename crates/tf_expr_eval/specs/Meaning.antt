@@ -1,4 +1,4 @@
--- What templates and expressions mean.
+-- The meaning of templates and expressions.
 use Rattle.std.specs.Prelude.{ℕ, suc, pos, Bool, true, false, if◌then◌else◌, Option, Some, None, List, [], ◌∷◌, Result, Ok, Err}
 use Rattle.tf_expr_syntax.specs.TemplateTree as syntax
 use Rattle.tf_value_data.specs.Tree.{Tree, null, boolean, whole, text, list, map, set, unknown, Items, no_items, item, items_of}
@@ -13,51 +13,51 @@ use Rattle.tf_expr_syntax.specs.declared.fault.EvalFault.TheVariants.{WrongKind,
 use Rattle.tf_expr_syntax.specs.declared.function.Function.{Function}
 use Rattle.tf_expr_eval.specs.Environment.{Environment}
 
--- what follows where there is a value; the first fault is the answer
+-- continues with a value; the first fault is the answer
 abbrev pub and_then : {A B : Type 0} → Result A EvalFault → (A → Result B EvalFault) → Result B EvalFault
 and_then (Ok a) next = next a
 and_then (Err fault) next = Err fault
 
--- A condition is a truth value, or isn't known yet.
+-- A condition is a truth value, or unknown.
 abbrev pub choice : Tree → Result (Option Bool) EvalFault
 choice (boolean b) = Ok (Some b)
 choice unknown = Ok None
 choice _ = Err WrongKind
 
--- Only the branch that a condition chooses matters, and neither where the condition isn't known yet.
+-- Only the branch that a condition chooses matters. If the condition is unknown, neither does.
 abbrev pub chosen : Option Bool → Answer → Answer → Answer
 chosen None first second = Ok unknown
 chosen (Some true) first second = first
 chosen (Some false) first second = second
 
--- how many expressions stand in a row
+-- the number of expressions in a sequence
 abbrev pub count : syntax.Trees → ℕ
 count syntax.no_trees = 0
 count (syntax.tree t ts) = suc (count ts)
 
--- a function that isn't there is missing, and one with too few or too many arguments is refused, both before
--- the arguments matter
+-- An unknown function is missing, and a wrong number of arguments is refused, both before the arguments are
+-- evaluated.
 abbrev pub called : Option Function → ℕ → Result (List Tree) EvalFault → Answer
 called None arguments values = Err Missing
 called (Some f) arguments values = if takes f arguments then and_then values (λ vs. call_value f (items_of vs)) else Err Arity
 
--- whether a template is one interpolation alone, without any text around it
+-- whether a template is exactly one interpolation, without any text around it
 abbrev pub stands_alone : syntax.Parts → List ℕ → Bool
 stands_alone (syntax.part [] t syntax.no_parts) [] = true
 stands_alone _ _ = false
 
--- texts and the values behind them, in order
+-- texts and the values after them, in order
 abbrev pub laid : List (List ℕ × Tree) → Items
 laid [] = no_items
 laid ((before, v) ∷ others) = item (text before) (item v (laid others))
 
--- The value of an interpolation alone, without any text around it, is the template's. Any other template is a
--- text, joined of its texts and values.
+-- The value of a single interpolation without any text around it is the template's. Any other template is a text,
+-- joined of its texts and values.
 abbrev pub woven : List (List ℕ × Tree) → List ℕ → Answer
 woven (([], v) ∷ []) [] = Ok v
 woven valued last = joined_value (item_behind (laid valued) (text last))
 
--- The parts are valued from left to right, and the first fault is the answer.
+-- The parts are evaluated from left to right, and the first fault is the answer.
 abbrev mutual
   pub meaning : Environment → syntax.Tree → Answer
   meaning env (syntax.number n) = whole_value (pos n)
@@ -78,7 +78,7 @@ abbrev mutual
   meanings env syntax.no_trees = Ok []
   meanings env (syntax.tree t ts) = and_then (meaning env t) (λ v. and_then (meanings env ts) (λ vs. Ok (v ∷ vs)))
 
-  -- the values of the interpolations, each behind its text
+  -- the values of the interpolations, each after its text
   pub between : Environment → syntax.Parts → Result (List (List ℕ × Tree)) EvalFault
   between env syntax.no_parts = Ok []
   between env (syntax.part before t ps) = and_then (meaning env t) (λ v. and_then (between env ps) (λ valued. Ok ((before, v) ∷ valued)))

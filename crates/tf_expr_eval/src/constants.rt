@@ -7,7 +7,7 @@ use tf_expr_operators::{EvalFault, limited_at};
 use tf_expr_syntax::Reference;
 use tf_value_data::Value;
 
-/// A reference, and the value that it stands for.
+/// A reference and its value.
 #[derive(Debug, Drop)]
 pub struct Constant {
     /// The reference.
@@ -16,7 +16,7 @@ pub struct Constant {
     pub value: Value,
 }
 
-/// A scope in which each reference stands for the value of its first constant, and any other is missing.
+/// A scope in which each reference has the value of its first constant, and any other reference is missing.
 #[derive(Debug, Drop)]
 pub struct Constants {
     /// The constants.

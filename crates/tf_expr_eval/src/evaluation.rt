@@ -17,11 +17,11 @@ use tf_expr_operators::{
 use tf_expr_syntax::{Template, Term};
 use tf_value_data::Value;
 
-/// The value of a template in a scope.
+/// Evaluates a template in a scope.
 ///
 /// # Errors
 ///
-/// The first fault of its parts from left to right, and `OutOfMemory`.
+/// Fails with the first fault of its parts from left to right, or with `OutOfMemory`.
 pub fn eval<S: Scope>(alloc: Global, template: &Template, scope: &S) -> Result<Value, EvalFault>
     ensures { Gives (template_meaning (S.environment scope.now) (template_view template.now)) result }
 {
@@ -29,11 +29,11 @@ pub fn eval<S: Scope>(alloc: Global, template: &Template, scope: &S) -> Result<V
     Ok(owned(found)?)
 }
 
-/// The value of a template in a scope, for who only reads it: a value that stands in the scope isn't copied.
+/// Evaluates a template in a scope without copying values that the scope owns.
 ///
 /// # Errors
 ///
-/// The first fault of its parts from left to right, and `OutOfMemory`.
+/// Fails with the first fault of its parts from left to right, or with `OutOfMemory`.
 #[cycle(eval)]
 pub fn find<'a, S: Scope>(
     alloc: Global,
@@ -45,7 +45,7 @@ pub fn find<'a, S: Scope>(
     woven_value(alloc, &template.parts, template.last.as_str(), scope)
 }
 
-/// The value of a template of these interpolations, with a text behind the last.
+/// Evaluates a template of interpolations and the text after the last.
 #[cycle(eval)]
 fn woven_value<'a, S: Scope>(
     alloc: Global,
@@ -64,7 +64,7 @@ fn woven_value<'a, S: Scope>(
     made(joiner.finish())
 }
 
-/// Whether there is one interpolation alone, without any text around it.
+/// Returns whether there is exactly one interpolation, without any text around it.
 fn stand_alone(parts: &Vec<(String, Term)>, last: &str) -> bool
     ensures { result ≡ stands_alone (parts_view parts.now.items) last.now }
 {
@@ -77,7 +77,7 @@ fn stand_alone(parts: &Vec<(String, Term)>, last: &str) -> bool
     parts[0].0.is_empty()
 }
 
-/// Joins texts and the values of the interpolations behind them to what is joined already.
+/// Appends texts and the values of the interpolations after them to a joiner.
 #[cycle(eval)]
 fn join_parts<S: Scope>(
     alloc: Global,
@@ -95,7 +95,7 @@ fn join_parts<S: Scope>(
     Ok(())
 }
 
-/// The value of an expression, where it stands or as it was made.
+/// Evaluates an expression. The value is borrowed or made.
 #[cycle(eval)]
 fn term_value<'a, S: Scope>(
     alloc: Global,
@@ -137,7 +137,7 @@ fn term_value<'a, S: Scope>(
     }
 }
 
-/// Whether a condition is met; `None` where that isn't known yet.
+/// Returns whether a condition is met; `None` if that isn't known yet.
 fn choice(condition: Found<'_>) -> Result<Option<bool>, EvalFault>
     ensures { result ≡ choice (found_tree condition.entry) }
 {
@@ -153,7 +153,7 @@ fn choice(condition: Found<'_>) -> Result<Option<bool>, EvalFault>
     }
 }
 
-/// The value of a number.
+/// Returns the value of a number.
 fn whole(number: u64) -> Result<Value, EvalFault>
     ensures { Gives (whole_value (pos number)) result }
 {
@@ -163,7 +163,7 @@ fn whole(number: u64) -> Result<Value, EvalFault>
     }
 }
 
-/// The value of a call.
+/// Evaluates a call.
 #[cycle(eval)]
 fn call_value<'a, S: Scope>(
     alloc: Global,
@@ -182,7 +182,7 @@ fn call_value<'a, S: Scope>(
     made(call(alloc, function, term_values(alloc, terms, scope)?))
 }
 
-/// The values of expressions in a row.
+/// Evaluates a sequence of expressions.
 #[cycle(eval)]
 fn term_values<'a, S: Scope>(
     alloc: Global,

@@ -17,12 +17,12 @@ use tf_expr_operators::{Bounded, EvalFault, Found, list, made, map};
 use tf_expr_syntax::Expr;
 use tf_value_data::Value;
 
-/// The value of an expression in a scope.
+/// Evaluates an expression in a scope.
 ///
 /// # Errors
 ///
-/// The first fault of its parts, elements in order and properties in byte order of their names; `TooLarge`
-/// where a list or a map is beyond the limits on values; and `OutOfMemory`.
+/// Fails with the first fault of its parts, elements in order and properties in byte order of their names; with
+/// `TooLarge` if a list or a map is beyond the limits on values; or with `OutOfMemory`.
 #[cycle(eval)]
 pub fn eval_expr<S: Scope>(alloc: Global, expr: &Expr, scope: &S) -> Result<Value, EvalFault>
     ensures { Gives (meaning (S.environment scope.now) (tree_of expr.now)) result }
@@ -43,7 +43,7 @@ pub fn eval_expr<S: Scope>(alloc: Global, expr: &Expr, scope: &S) -> Result<Valu
     }
 }
 
-/// The values of expressions under their names.
+/// Evaluates the expressions of a map.
 #[cycle(eval)]
 fn eval_entries<S: Scope>(
     alloc: Global,
@@ -61,11 +61,11 @@ fn eval_entries<S: Scope>(
     Ok(values)
 }
 
-/// The value of an expression in a scope, for who only reads it: a value that stands in the scope isn't copied.
+/// Evaluates an expression in a scope. A template's value that the scope owns isn't copied.
 ///
 /// # Errors
 ///
-/// As `eval_expr`.
+/// Fails as `eval_expr`.
 pub fn find_expr<'a, S: Scope>(
     alloc: Global,
     expr: &Expr,
@@ -79,11 +79,11 @@ pub fn find_expr<'a, S: Scope>(
     }
 }
 
-/// The value of an expression in a scope, with the limits that it keeps: it isn't measured once more.
+/// Evaluates an expression in a scope and returns the value with its proved limits, so it isn't measured again.
 ///
 /// # Errors
 ///
-/// As `eval_expr`.
+/// Fails as `eval_expr`.
 pub fn eval_bounded<S: Scope>(alloc: Global, expr: &Expr, scope: &S) -> Result<Bounded, EvalFault>
     ensures { GivesBounded (meaning (S.environment scope.now) (tree_of expr.now)) result }
 {

@@ -10,8 +10,8 @@ use tf_expr_operators::laws::{
 };
 use tf_value_data::refinement_is_an_order;
 
-/// Where one environment refines to another, and a template has a value in both, the first value refines to
-/// the second. It follows from the same of each operation, whose laws are named here for their contracts.
+/// If one environment refines to another, and a template has a value in both, the first value refines to the second.
+/// This follows from such a law of each operation. The body calls those laws for their contracts.
 pub fn knowledge_grows()
     ensures { KnowledgeGrows }
 {
@@ -24,9 +24,8 @@ pub fn knowledge_grows()
     calls_grow();
 }
 
-/// Where one environment refines to another, and an expression has a value in both, the first value refines to
-/// the second. It follows from the same of templates, lists and maps, whose laws are named here for their
-/// contracts.
+/// If one environment refines to another, and an expression has a value in both, the first value refines to the
+/// second. This follows from such laws of templates, lists and maps. The body calls those for their contracts.
 pub fn expr_knowledge_grows()
     ensures { ExprKnowledgeGrows }
 {
@@ -35,8 +34,8 @@ pub fn expr_knowledge_grows()
     collections_grow();
 }
 
-/// The value of a template and that of an expression are within the limits of weight and depth, whatever names
-/// stand for. It follows from the same of each operation, whose law is named here for its contract.
+/// The values of templates and expressions are within the limits of weight and depth, in any environment. This
+/// follows from such a law of all operations. The body calls it for its contract.
 pub fn values_are_within_limits()
     ensures templates { TemplatesAreWithinLimits }
     ensures expressions { ExpressionsAreWithinLimits }
@@ -44,7 +43,7 @@ pub fn values_are_within_limits()
     answers_are_within_limits();
 }
 
-/// A template and an expression mean the same in environments that agree on what they name.
+/// A template or an expression means the same in environments that agree on the references in it.
 pub fn meaning_is_local()
     ensures templates { TemplatesAreLocal }
     ensures expressions { ExpressionsAreLocal }

@@ -1,10 +1,9 @@
-//! What templates and expressions mean.
+//! The meaning of templates and expressions.
 //!
 //! The definitions are in `specs/Meaning.antt` and `specs/ExprMeaning.antt`: by recursion on the tree of a template
-//! or an expression, in an environment that gives each reference a value or a fault. A `Scope` is such an
-//! environment in code, and `eval` and `eval_expr` give the meaning's value or the meaning's fault. Knowledge only
-//! grows: the more is known of what the references stand for, the more is known of the value, and what was known
-//! stays (`knowledge_grows`, `expr_knowledge_grows`).
+//! or an expression, in an environment that gives each reference a value or a fault. A `Scope` is such an environment
+//! in code, and `eval` and `eval_expr` return the meaning's value or fault. If the values of the references refine to
+//! others, the value of the whole does too (`knowledge_grows`, `expr_knowledge_grows`).
 #![tactic(auto)]
 
 mod constants;

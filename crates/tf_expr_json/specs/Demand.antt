@@ -1,4 +1,4 @@
--- What is demanded of a JSON tree that is to be an expression, and how a demand fails.
+-- The demands on a JSON tree that is to be an expression, and how a demand fails.
 use Rattle.std.specs.Prelude.{◌≡◌, ◌<◌, ◌≤◌, ℕ, List, IsTrue, false}
 use Rattle.serde_json.specs.Data.{Num}
 use Rattle.tf_expr_template.specs.Spelling.{SpellsTemplate}
@@ -12,7 +12,7 @@ use Rattle.tf_expr_json.specs.declared.fault.ExprCause.{ExprCause}
 use Rattle.tf_expr_json.specs.declared.fault.ExprCause.TheVariants.{BadShape, At, TooDeep}
 
 pub data Demand : Type 0 where
-  -- neither `${` nor `%{` stands in the text, which names a property of an object
+  -- a property's name contains neither `${` nor `%{`
   a_plain_name : List ℕ → Demand
   -- the number is held as a whole number of 64 signed bits
   a_whole_number : Num → Demand
@@ -28,14 +28,14 @@ IsMet (a_plain_name text) = IsPlain text
 IsMet (a_whole_number number) = IsTrue (known (whole_from number))
 IsMet (a_template text) = (w : Woven) × IsTemplate w text
 
--- what there is to check, in walk order
+-- the checks, in walk order
 abbrev pub Checks : Type 0
 Checks = List (Check Demand)
 
 abbrev pub AreMet : Checks → Type 0
 AreMet = AllMet IsMet
 
--- How a text fails to be a template: it spells none, or each that it spells is too deep. The offset is free.
+-- How a text fails to be a template: it spells no template, or each that it spells is too deep. The offset is free.
 abbrev pub IsNoTemplate : List ℕ → ExprCause → Type 0
 IsNoTemplate text BadShape = ⊥
 IsNoTemplate text (At offset) = (w : Woven) → ¬ SpellsTemplate w text
@@ -47,12 +47,12 @@ Fails (a_plain_name text) cause = (¬ IsPlain text) × (cause ≡ BadShape)
 Fails (a_whole_number number) cause = (known (whole_from number) ≡ false) × (cause ≡ BadShape)
 Fails (a_template text) cause = IsNoTemplate text cause
 
--- The first fault of the checks is what is told, or there was no memory.
+-- The refusal is the first fault of the checks, or memory ran out.
 abbrev pub Refuses : Checks → Told → Type 0
 Refuses checks no_memory = Unit {0}
 Refuses checks (wrong place cause) = IsFirst IsMet Fails place cause checks
 
--- a fault at the place, or there was no memory to say so
+-- a fault at the place, or memory ran out
 abbrev pub TellsAt : List ℕ → ExprCause → Told → Type 0
 TellsAt place cause no_memory = Unit {0}
 TellsAt place cause (wrong place' cause') = (place' ≡ place) × (cause' ≡ cause)

@@ -1,4 +1,4 @@
--- What holds of expressions and their checks, whatever they are.
+-- Laws of all expressions and their checks.
 use Rattle.std.specs.Prelude.{◌≡◌, ℕ, List}
 use Rattle.serde_json.specs.Data.{Data}
 use Rattle.tf_config_refusal.specs.Check.{IsFirst}
@@ -15,7 +15,7 @@ ExpressionIsFaultless = (place : List (List ℕ)) (json : Data) (e : Tree) → I
 abbrev pub FaultlessIsExpression : Type 0
 FaultlessIsExpression = (place : List (List ℕ)) (json : Data) → AreMet (expr_checks place json) → (e : Tree) × IsExpr json e
 
--- A JSON tree is one expression at most.
+-- A JSON tree is at most one expression.
 abbrev pub ExpressionIsOne : Type 0
 ExpressionIsOne = (json : Data) (e f : Tree) → IsExpr json e → IsExpr json f → e ≡ f
 
@@ -23,7 +23,7 @@ ExpressionIsOne = (json : Data) (e f : Tree) → IsExpr json e → IsExpr json f
 abbrev pub FaultyIsNone : Type 0
 FaultyIsNone = (place : List (List ℕ)) (json : Data) (e : Tree) (at : List ℕ) (cause : ExprCause) → IsFirst IsMet Fails at cause (expr_checks place json) → ¬ IsExpr json e
 
--- The first fault of a JSON tree stands at one place.
+-- The first fault of a JSON tree is at one place.
 abbrev pub FirstPlaceIsOne : Type 0
 FirstPlaceIsOne = (place : List (List ℕ)) (json : Data) (at at' : List ℕ) (cause cause' : ExprCause) → IsFirst IsMet Fails at cause (expr_checks place json)
     → IsFirst IsMet Fails at' cause' (expr_checks place json) → at ≡ at'

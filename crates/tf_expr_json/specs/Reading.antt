@@ -1,4 +1,4 @@
--- Which expression a JSON tree is, and what is demanded of it.
+-- Which expression a JSON tree is, and the demands on it.
 use Rattle.std.specs.Prelude.{◌≡◌, ℕ, ◌+◌, List, [], ◌∷◌, ◌++◌}
 use Rattle.std.specs.Fmt.{decimal}
 use Rattle.serde_json.specs.Data as json
@@ -9,8 +9,8 @@ use Rattle.tf_expr_json.specs.Demand.{Checks, a_plain_name, a_whole_number, a_te
 use Rattle.tf_expr_json.specs.Opening.{IsPlain}
 use Rattle.tf_expr_syntax.specs.ExprTree.{Tree, null, boolean, whole, template, list, map, Trees, no_trees, tree, Entries, no_entries, entry}
 
--- What is demanded of a tree at a place, of the elements of an array from a position on, and of the
--- members of an object. A property's name comes before what stands there.
+-- The demands on a tree at a place, on the elements of an array from a position on, and on the members of an object.
+-- A property's name comes before its value.
 abbrev mutual
   pub expr_checks : List (List ℕ) → json.Data → Checks
   expr_checks place json.null = []

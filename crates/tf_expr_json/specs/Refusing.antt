@@ -1,4 +1,4 @@
--- How a fault of an expression is refused.
+-- The refusal of a fault of an expression.
 use Rattle.std.specs.Prelude.{ℕ}
 use Rattle.tf_expr_json.specs.Fault as faults
 use Rattle.tf_expr_json.specs.declared.fault.ExprCause.{ExprCause}
@@ -14,13 +14,13 @@ bad_template offset = (code.BadTemplate, at offset)
 abbrev pub too_deep : Way
 too_deep = (code.Limit, bare)
 
--- the way in which a fault of an expression is refused
+-- the code and the detail for a fault of an expression
 abbrev pub way_of : ExprCause → Way
 way_of causes.BadShape = (code.BadShape, bare)
 way_of (causes.At offset) = bad_template offset
 way_of causes.TooDeep = too_deep
 
--- what is told of an expression, as it is refused
+-- the refusal for a fault of an expression
 abbrev pub refused_expression : faults.Told → RefusalView
 refused_expression faults.no_memory = no_memory
 refused_expression (faults.wrong place cause) = fault (way_of cause).0 place (way_of cause).1

@@ -1,4 +1,4 @@
--- An expression within a larger format, which has the demands of expressions among its own.
+-- An expression within a larger format, whose demands include those of expressions.
 use Rattle.std.specs.Prelude.{List, [], ◌∷◌}
 use Rattle.tf_config_refusal.specs.Check.{Check}
 

@@ -1,4 +1,4 @@
-//! What is demanded at one place of a JSON tree.
+//! The demands at one place of a JSON tree.
 
 ghost use Rattle.serde_json.specs.View.{number_view};
 ghost use Rattle.std.specs.Prelude.{◌≡◌, ◌↔◌, IfErr, IfOk, IsTrue, OnOk};
@@ -18,7 +18,7 @@ use tf_config_refusal::Path;
 use tf_expr_syntax::Template;
 use tf_expr_template::{ReadFault, read_template};
 
-// A fault at a place, or that there is no memory to write the place out.
+// Returns a fault at a place, or that memory ran out for the text of the place.
 fn refused(alloc: Global, path: &Path<'_>, cause: ExprCause) -> ExprFault
     ensures { TellsAt (dotted (place_of path.now)) cause (told result) }
 {
@@ -28,7 +28,7 @@ fn refused(alloc: Global, path: &Path<'_>, cause: ExprCause) -> ExprFault
     }
 }
 
-// The whole number of 64 signed bits that a number is held as.
+// Returns the whole number of 64 signed bits that a number is held as.
 pub(crate) fn demand_whole(
     alloc: Global,
     path: &Path<'_>,
@@ -44,7 +44,7 @@ pub(crate) fn demand_whole(
     }
 }
 
-// The template that a text is.
+// Reads a text as a template.
 pub(crate) fn demand_template(
     alloc: Global,
     path: &Path<'_>,
@@ -62,7 +62,7 @@ pub(crate) fn demand_template(
     }
 }
 
-// A property's name, which is literal.
+// Checks that a property's name is literal.
 pub(crate) fn demand_plain_name(alloc: Global, path: &Path<'_>, name: &str) -> Result<(), ExprFault>
     ensures ok { OnOk result (IsPlain name.now) }
     ensures fault { IfErr result (λ fault.
@@ -75,7 +75,7 @@ pub(crate) fn demand_plain_name(alloc: Global, path: &Path<'_>, name: &str) -> R
     }
 }
 
-// Whether neither `${` nor `%{` stands in a text.
+// Returns whether a text contains neither `${` nor `%{`.
 fn is_plain(text: &str) -> bool
     ensures { IsTrue result ↔ IsPlain text.now }
 {

@@ -1,4 +1,4 @@
-//! Why a JSON tree is no expression.
+//! The faults of a JSON tree that is no expression.
 
 ghost use Rattle.std.specs.Prelude.{◌≡◌, Some};
 ghost use Rattle.tf_expr_json.specs.Fault.{told};
@@ -42,7 +42,7 @@ pub enum ExprCause {
     TooDeep,
 }
 
-/// What is wrong and where, on one line, with no newline.
+/// Prints what is wrong and where, on one line, without a newline.
 impl fmt::Display for ExprFault {
     ghost output = { λ fault. Some (fault_text (told fault)) };
 
@@ -54,7 +54,7 @@ impl fmt::Display for ExprFault {
     }
 }
 
-/// What is wrong, on one line, with no newline.
+/// Prints what is wrong, on one line, without a newline.
 impl fmt::Display for ExprCause {
     ghost output = { λ cause. Some (cause_text cause) };
 

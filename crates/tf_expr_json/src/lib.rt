@@ -1,9 +1,9 @@
-//! Templates and expressions: the door to reading them.
+//! Reading of templates and expressions.
 //!
-//! An expression is a JSON tree whose texts are templates. The definitions in `specs/` say what a JSON tree has to
-//! be (`Reading`: checks in walk order) and which expression it is. `read_expr` gives that expression, or the first
-//! fault with its place. Trees stand in `tf_expr_syntax` and reading a template in `tf_expr_template`; what readers need of
-//! the two stands here too. What a tree means is said in `tf_expr_eval`, on which no reader stands.
+//! An expression is a JSON tree whose texts are templates. The definitions in `specs/` say what a JSON tree has to be
+//! (`Reading`: checks in walk order) and which expression it is. `read_expr` returns that expression, or the first
+//! fault with its place. `tf_expr_syntax` defines the trees, and `tf_expr_template` reads templates; this crate
+//! re-exports what readers need of both. `tf_expr_eval` defines what a tree means, and no reader depends on it.
 #![tactic(auto)]
 
 mod demand;

@@ -1,4 +1,4 @@
-//! Expressions, read from JSON trees.
+//! Reading of expressions from JSON trees.
 
 ghost use Rattle.serde_json.specs.View.{view, items_view, members_view};
 ghost use Rattle.std.specs.Prelude.{[], IfErr, IfOk};
@@ -16,16 +16,16 @@ use std::collections::BTreeMap;
 use tf_config_refusal::Path;
 use tf_expr_syntax::Expr;
 
-/// Reads the expression that a JSON tree is: texts are templates no deeper than `MAX_DEPTH`, property names
-/// are literal, and numbers are whole and of 64 signed bits.
+/// Reads the expression that a JSON tree is. Its texts are templates no deeper than `MAX_DEPTH`, property names are
+/// literal, and numbers are whole and of 64 signed bits.
 ///
 /// # Errors
 ///
-/// The first fault in walk order: elements in order, properties in byte order, depth first, and a property's
-/// name before what stands there. Its place is written from the top of the tree. `BadShape` is a property's
-/// name with `${` or `%{` in it, or a number that isn't whole and of 64 signed bits (`1.0`, `1e3`, `-0`,
-/// 2^63); `At` a text that is no template, with a byte offset; `TooDeep` a text whose template is deeper.
-/// `OutOfMemory` where memory runs out.
+/// Fails with the first fault in walk order: elements in order, properties in byte order, depth first, and a
+/// property's name before its value. The place is written from the top of the tree. The cause is `BadShape` for a
+/// property's name with `${` or `%{` in it, and for a number that isn't whole and of 64 signed bits (`1.0`, `1e3`,
+/// `-0`, 2^63); `At`, with a byte offset, for a text that is no template; and `TooDeep` for a text whose template is
+/// deeper. Fails with `OutOfMemory` if memory runs out.
 pub fn read_expr(alloc: Global, json: &Value) -> Result<Expr, ExprFault>
     ensures ok { IfOk result (λ e. IsExpr (view json.now) (tree_of e)) }
     ensures fault { IfErr result (λ fault. Refuses (expr_checks [] (view json.now)) (told fault)) }
@@ -33,12 +33,12 @@ pub fn read_expr(alloc: Global, json: &Value) -> Result<Expr, ExprFault>
     read_expr_at(alloc, &Path::Root, json)
 }
 
-/// Reads the expression that a JSON tree is which stands at a place of a larger one. The place of a fault is
-/// written from the top of the larger one.
+/// Reads the expression that a part of a larger JSON tree is. The place of a fault is written from the top of the
+/// larger tree.
 ///
 /// # Errors
 ///
-/// As those of `read_expr`.
+/// Fails as `read_expr`.
 #[cycle(read)]
 pub fn read_expr_at(alloc: Global, path: &Path<'_>, json: &Value) -> Result<Expr, ExprFault>
     ensures ok { IfOk result (λ e. IsExpr (view json.now) (tree_of e)) }

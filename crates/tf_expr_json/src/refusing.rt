@@ -1,4 +1,4 @@
-//! How a fault of an expression is refused.
+//! The refusal of a fault of an expression.
 
 ghost use Rattle.std.specs.Prelude.{◌≡◌};
 ghost use Rattle.tf_expr_json.specs.Fault.{told};
@@ -8,7 +8,7 @@ ghost use Rattle.tf_config_refusal.specs.Refusal.{detail_of, refusal_of};
 use crate::fault::{ExprCause, ExprFault};
 use tf_config_refusal::{Code, Detail, Refusal};
 
-/// A fault of an expression, as it is refused.
+/// Turns a fault of an expression into a refusal.
 impl From<ExprFault> for Refusal {
     ghost from_gives = { λ fault refusal. refusal_of refusal ≡ refused_expression (told fault) };
 
@@ -27,7 +27,7 @@ impl From<ExprFault> for Refusal {
     }
 }
 
-/// The code of a fault of an expression, and what stands behind its name.
+/// Returns the code and the detail of a fault of an expression.
 fn way_of(cause: ExprCause) -> (Code, Detail)
     ensures { (result.0, detail_of result.1) ≡ way_of cause }
 {

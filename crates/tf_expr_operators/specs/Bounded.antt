@@ -10,12 +10,12 @@ use Rattle.tf_expr_operators.specs.Answer.{Answer}
 abbrev pub bounded_tree : Bounded → Tree
 bounded_tree b = tree_of b.value
 
--- A call answers exactly so: the value, or the same fault.
+-- A call returns exactly this answer: the value, or the same fault.
 abbrev pub AnswersBounded : Answer → Result Bounded EvalFault → Type 0
 AnswersBounded a (Ok b) = a ≡ Ok (bounded_tree b)
 AnswersBounded a (Err e) = a ≡ Err e
 
--- A call answers exactly so, or there was no memory.
+-- A call returns exactly this answer, or memory ran out.
 abbrev pub GivesBounded : Answer → Result Bounded EvalFault → Type 0
 GivesBounded a (Ok b) = a ≡ Ok (bounded_tree b)
 GivesBounded a (Err OutOfMemory) = ⊤

@@ -1,4 +1,4 @@
--- What was found: a value where it stands, or one that was made.
+-- A value that was found: borrowed or made.
 use Rattle.std.specs.Prelude.{◌≡◌, List, map as each, Result, Ok, Err, ⊤}
 use Rattle.tf_value_data.specs.Tree.{Tree, tree_of, Items, items_of}
 use Rattle.tf_expr_syntax.specs.declared.fault.EvalFault.{EvalFault}
@@ -16,12 +16,12 @@ found_tree (Made v) = tree_of v
 abbrev pub found_items : List Found → Items
 found_items fs = items_of (each found_tree fs)
 
--- A call finds exactly so: the value, or the same fault.
+-- A call returns exactly this answer: the value, or the same fault.
 abbrev pub FindsExactly : Answer → Result Found EvalFault → Type 0
 FindsExactly a (Ok f) = a ≡ Ok (found_tree f)
 FindsExactly a (Err e) = a ≡ Err e
 
--- A call finds exactly so, or there was no memory.
+-- A call returns exactly this answer, or memory ran out.
 abbrev pub Finds : Answer → Result Found EvalFault → Type 0
 Finds a (Ok f) = a ≡ Ok (found_tree f)
 Finds a (Err OutOfMemory) = ⊤

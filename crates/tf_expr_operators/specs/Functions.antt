@@ -1,4 +1,4 @@
--- What functions answer.
+-- The results of functions.
 use Rattle.std.specs.Prelude.{ℕ, ◌+◌, pos, ◌&&◌, if◌then◌else◌, List, [], length, is_some, Option, Some, None, Ok, Err}
 use Rattle.std.specs.BTreeSet.{insert_key}
 use Rattle.std.specs.Cmp.Lexicographic.{slice_cmp}
@@ -12,7 +12,7 @@ use Rattle.tf_expr_syntax.specs.declared.function.Function.TheVariants.{Length, 
 use Rattle.tf_expr_operators.specs.Answer.{Answer, whole_value, list_value, map_value, any_unknown, items_behind}
 use Rattle.tf_expr_operators.specs.Joining.{text_of, joined_value}
 
--- how many there are
+-- the number of items, and of entries
 abbrev pub items_count : Items → ℕ
 items_count no_items = 0
 items_count (item t ts) = 1 + items_count ts
@@ -26,7 +26,7 @@ abbrev pub key_items : Entries → Items
 key_items no_entries = no_items
 key_items (entry k t es) = item (text k) (key_items es)
 
--- what stands at the keys
+-- the values at the keys
 abbrev pub value_items : Entries → Items
 value_items no_entries = no_items
 value_items (entry k t es) = item t (value_items es)
@@ -45,39 +45,39 @@ keys_value unknown = Ok unknown
 keys_value (map es) = Ok (list (key_items es))
 keys_value _ = Err WrongKind
 
--- `values` lists what stands at the keys of a map, in their order.
+-- `values` lists the values of a map, in the order of their keys.
 abbrev pub values_value : Tree → Answer
 values_value unknown = Ok unknown
 values_value (map es) = Ok (list (value_items es))
 values_value _ = Err WrongKind
 
--- entries with others put over them, one after the other
+-- entries with others put over them, one after another
 abbrev pub laid_over : Entries → Entries → Entries
 laid_over base no_entries = base
 laid_over base (entry k t es) = laid_over (put k t base) es
 
--- entries with those of maps put over them, one map after the other; none where a value is no map
+-- entries with those of maps put over them, one map after another; `None` if a value is no map
 abbrev pub merged_onto : Entries → Items → Option Entries
 merged_onto base no_items = Some base
 merged_onto base (item (map es) ts) = merged_onto (laid_over base es) ts
 merged_onto base (item _ ts) = None
 
--- a map, where there are entries; else a value is of another kind
+-- the map of the entries; a fault if a value was of another kind
 abbrev pub entries_value : Option Entries → Answer
 entries_value None = Err WrongKind
 entries_value (Some es) = map_value es
 
--- `merge` has all keys of its maps, and a later map's value stands at a key of several.
+-- `merge` has all keys of its maps. If several have a key, the last one's value wins.
 abbrev pub merge_value : Items → Answer
 merge_value ts = if any_unknown ts then Ok unknown else entries_value (merged_onto no_entries ts)
 
--- the items of lists, one list behind the other; none where a value is no list
+-- the items of lists, one list after another; `None` if a value is no list
 abbrev pub concatenated : Items → Option Items
 concatenated no_items = Some no_items
 concatenated (item (list us) ts) = option_map (items_behind us) (concatenated ts)
 concatenated (item _ ts) = None
 
--- a list, where there are items; else a value is of another kind
+-- the list of the items; a fault if a value was of another kind
 abbrev pub items_value : Option Items → Answer
 items_value None = Err WrongKind
 items_value (Some ts) = list_value ts
@@ -86,7 +86,7 @@ items_value (Some ts) = list_value ts
 abbrev pub concat_value : Items → Answer
 concat_value ts = if any_unknown ts then Ok unknown else items_value (concatenated ts)
 
--- items with one before each
+-- items with one before each of them
 abbrev pub each_after : Tree → Items → Items
 each_after s no_items = no_items
 each_after s (item t ts) = item s (item t (each_after s ts))
@@ -96,39 +96,39 @@ abbrev pub spaced : Tree → Items → Items
 spaced s no_items = no_items
 spaced s (item t ts) = item t (each_after s ts)
 
--- the items of a list, joined, with a separator between each two; the separator is of a kind that has a text
+-- the items of a list, joined, with a separator between each two; the separator must be of a kind that has a text
 abbrev pub spaced_value : Tree → Tree → Answer
 spaced_value s (list ts) = if is_some (text_of s) then joined_value (spaced s ts) else Err WrongKind
 spaced_value s _ = Err WrongKind
 
--- `join` joins the items of a list, with a separator between each two. Where a part of the separator or of
--- the list is unknown, at any depth, so is the result.
+-- `join` joins the items of a list, with a separator between each two. If a part of the separator or of the list is
+-- unknown, at any depth, so is the result.
 abbrev pub join_value : Tree → Tree → Answer
 join_value s t = if known s && known t then spaced_value s t else Ok unknown
 
--- texts with those of a list put in, each once and in byte order; none where a value is no text
+-- texts with those of a list put in, each once and in byte order; `None` if a value is no text
 abbrev pub texts_with : List (List ℕ) → Items → Option (List (List ℕ))
 texts_with ss no_items = Some ss
 texts_with ss (item (text s) ts) = texts_with (insert_key (slice_cmp nat_cmp) ss s) ts
 texts_with ss (item _ ts) = None
 
--- a set, where there are texts; else a value is of another kind
+-- the set of the texts; a fault if a value was of another kind
 abbrev pub texts_value : Option (List (List ℕ)) → Answer
 texts_value None = Err WrongKind
 texts_value (Some ss) = Ok (set ss)
 
--- the set of a list's texts; a set as it is
+-- the set of a list's texts, and a set unchanged
 abbrev pub set_value : Tree → Answer
 set_value (list ts) = texts_value (texts_with [] ts)
 set_value (set ss) = Ok (set ss)
 set_value _ = Err WrongKind
 
--- `toset` gives the set of a list of texts, and a set as it is. Where a part of its argument is unknown, at any
+-- `toset` returns the set of a list of texts, and a set unchanged. If a part of its argument is unknown, at any
 -- depth, so is the result.
 abbrev pub toset_value : Tree → Answer
 toset_value t = if known t then set_value t else Ok unknown
 
--- what a function answers to its arguments
+-- the result of a function for its arguments
 abbrev pub call_value : Function → Items → Answer
 call_value Length (item t no_items) = length_value t
 call_value Keys (item t no_items) = keys_value t

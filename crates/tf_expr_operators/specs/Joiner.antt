@@ -14,10 +14,10 @@ joined_so_far TooLarge = Err too_large
 joined_so_far WrongKind = Err wrong_kind
 joined_so_far Unknown = Ok unknown
 
--- what the values so far are joined to
+-- the result for the values so far
 abbrev pub answer_so_far : Joiner → Answer
 answer_so_far j = joined_so_far j.joined
 
--- What it holds is what values are joined to.
+-- The joiner holds the result for these values.
 abbrev pub Joins : Joiner → Items → Type 0
 Joins j ts = answer_so_far j ≡ joined_value ts

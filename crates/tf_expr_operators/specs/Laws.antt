@@ -1,4 +1,4 @@
--- What holds of operations, whatever their operands are.
+-- Laws of operations, for all operands.
 use Rattle.std.specs.Prelude.{ℕ, List, ◌≡◌, ◌↔◌, ◌⊎◌, true, Option, Some, None, Ok, ⊤}
 use Rattle.std.specs.Cmp.Lexicographic.{slice_cmp}
 use Rattle.std.specs.List.{Contains}
@@ -17,49 +17,49 @@ use Rattle.tf_expr_operators.specs.Parts.{attribute_value, index_value}
 use Rattle.tf_expr_operators.specs.Joining.{joined_value}
 use Rattle.tf_expr_operators.specs.Functions.{laid_over, call_value, toset_value}
 
--- Where more is known of the operand of `!` or `-`, no more than more is known of the result.
+-- If the operand of `!` or `-` refines to another one, its result refines to the other one's.
 abbrev pub UnaryGrows : Type 0
 UnaryGrows = (op : Prefix) (t u v w : Tree) → Refines t u → unary_value op t ≡ Ok v → unary_value op u ≡ Ok w → Refines v w
 
--- Where more is known of the operands of an operator, no more than more is known of the result.
+-- If the operands of an operator refine to others, their result refines to that of the others.
 abbrev pub BinaryGrows : Type 0
 BinaryGrows = (op : Operator) (a b c d v w : Tree) → Refines a b → Refines c d → binary_value op a c ≡ Ok v → binary_value op b d ≡ Ok w → Refines v w
 
--- Where more is known of a value, no more than more is known of what stands at a name in it.
+-- If a value refines to another one, its part at a name refines to the other one's.
 abbrev pub AttributeGrows : Type 0
 AttributeGrows = (t u : Tree) (name : List ℕ) (v w : Tree) → Refines t u → attribute_value t name ≡ Ok v → attribute_value u name ≡ Ok w → Refines v w
 
--- Where more is known of a value and an index, no more than more is known of what stands there.
+-- If a value and an index refine to others, their part refines to that of the others.
 abbrev pub IndexGrows : Type 0
 IndexGrows = (a b c d v w : Tree) → Refines a b → Refines c d → index_value a c ≡ Ok v → index_value b d ≡ Ok w → Refines v w
 
--- Where more is known of the items of a list, no more than more is known of the list.
+-- If the items of a list refine to others, the list refines to the list of the others.
 abbrev pub ListGrows : Type 0
 ListGrows = (ts us : Items) (v w : Tree) → RefinesItems ts us → list_value ts ≡ Ok v → list_value us ≡ Ok w → Refines v w
 
--- Where more is known of the entries of a map, no more than more is known of the map.
+-- If the entries of a map refine to others, the map refines to the map of the others.
 abbrev pub MapGrows : Type 0
 MapGrows = (es fs : Entries) (v w : Tree) → RefinesEntries es fs → map_value es ≡ Ok v → map_value fs ≡ Ok w → Refines v w
 
--- Where more is known of values, no more than more is known of their texts, joined.
+-- If values refine to others, their joined text refines to that of the others.
 abbrev pub JoinedGrows : Type 0
 JoinedGrows = (ts us : Items) (v w : Tree) → RefinesItems ts us → joined_value ts ≡ Ok v → joined_value us ≡ Ok w → Refines v w
 
--- Where more is known of the arguments of a function, no more than more is known of the result.
+-- If the arguments of a function refine to others, their result refines to that of the others.
 abbrev pub CallGrows : Type 0
 CallGrows = (f : Function) (ts us : Items) (v w : Tree) → RefinesItems ts us → call_value f ts ≡ Ok v → call_value f us ≡ Ok w → Refines v w
 
--- Values are within the limits where each of them is.
+-- Values are within the limits if each of them is.
 abbrev pub AreWithinLimits : Items → Type 0
 AreWithinLimits no_items = ⊤
 AreWithinLimits (item t ts) = IsWithinLimits t × AreWithinLimits ts
 
--- What an operator answers is within the limits.
+-- The result of an operator is within the limits.
 abbrev pub OperatorsAreWithinLimits : Type 0
 OperatorsAreWithinLimits =
     ((op : Prefix) (t v : Tree) → unary_value op t ≡ Ok v → IsWithinLimits v) × ((op : Operator) (t u v : Tree) → binary_value op t u ≡ Ok v → IsWithinLimits v)
 
--- What stands at a name or an index in a value within the limits is within the limits.
+-- The part at a name or an index of a value within the limits is within the limits.
 abbrev pub PartsAreWithinLimits : Type 0
 PartsAreWithinLimits =
     ((t : Tree) (name : List ℕ) (v : Tree) → IsWithinLimits t → attribute_value t name ≡ Ok v → IsWithinLimits v)
@@ -71,7 +71,7 @@ CollectionsAreWithinLimits =
     ((ts : Items) (v : Tree) → list_value ts ≡ Ok v → IsWithinLimits v) × ((es : Entries) (v : Tree) → map_value es ≡ Ok v → IsWithinLimits v)
     × ((ts : Items) (v : Tree) → joined_value ts ≡ Ok v → IsWithinLimits v)
 
--- What a function answers to arguments within the limits is within the limits.
+-- The result of a function for arguments within the limits is within the limits.
 abbrev pub CallsAreWithinLimits : Type 0
 CallsAreWithinLimits = (f : Function) (ts : Items) (v : Tree) → AreWithinLimits ts → call_value f ts ≡ Ok v → IsWithinLimits v
 
@@ -80,12 +80,12 @@ abbrev pub AreDistinct : Entries → Type 0
 AreDistinct no_entries = ⊤
 AreDistinct (entry k t es) = (get k es ≡ None) × AreDistinct es
 
--- what stands at a key in the later one of two maps, or else in the earlier one
+-- the value at a key of the later one of two maps, or else of the earlier one
 abbrev pub later_or_earlier : Option Tree → Option Tree → Option Tree
 later_or_earlier (Some t) earlier = Some t
 later_or_earlier None earlier = earlier
 
--- Where a map is merged onto another, its own value stands at each of its keys, and the other's at the others.
+-- When a map is merged onto another, its values win at its keys, and the other's values remain at the other keys.
 abbrev pub LaterMapWins : Type 0
 LaterMapWins = (k : List ℕ) (base es : Entries) → AreDistinct es → get k (laid_over base es) ≡ later_or_earlier (get k es) (get k base)
 
@@ -94,18 +94,18 @@ abbrev pub IsAmong : Tree → Items → Type 0
 IsAmong t no_items = ⊥
 IsAmong t (item u us) = (t ≡ u) ⊎ IsAmong t us
 
--- The set that `toset` gives of a list has exactly the list's texts, each once and in byte order.
+-- The set that `toset` returns for a list has exactly the list's texts, each once and in byte order.
 abbrev pub SetHasTheTexts : Type 0
 SetHasTheTexts = (ts : Items) (ss : List (List ℕ)) → toset_value (list ts) ≡ Ok (set ss)
     → IsStrictlySortedBy (slice_cmp nat_cmp) ss × ((s : List ℕ) → Contains ss s ↔ IsAmong (text s) ts)
 
--- What an operator answers to known operands is known.
+-- The result of an operator for known operands is known.
 abbrev pub OperatorsKeepKnown : Type 0
 OperatorsKeepKnown =
     ((op : Prefix) (t v : Tree) → known t ≡ true → unary_value op t ≡ Ok v → known v ≡ true)
     × ((op : Operator) (t u v : Tree) → known t ≡ true → known u ≡ true → binary_value op t u ≡ Ok v → known v ≡ true)
 
--- What stands at a name or a known index in a known value is known.
+-- The part at a name or a known index of a known value is known.
 abbrev pub PartsKeepKnown : Type 0
 PartsKeepKnown =
     ((t : Tree) (name : List ℕ) (v : Tree) → known t ≡ true → attribute_value t name ≡ Ok v → known v ≡ true)
@@ -118,6 +118,6 @@ CollectionsKeepKnown =
     × ((es : Entries) (v : Tree) → known_entries es ≡ true → map_value es ≡ Ok v → known v ≡ true)
     × ((ts : Items) (v : Tree) → known_items ts ≡ true → joined_value ts ≡ Ok v → known v ≡ true)
 
--- What a function answers to known arguments is known.
+-- The result of a function for known arguments is known.
 abbrev pub CallsKeepKnown : Type 0
 CallsKeepKnown = (f : Function) (ts : Items) (v : Tree) → known_items ts ≡ true → call_value f ts ≡ Ok v → known v ≡ true

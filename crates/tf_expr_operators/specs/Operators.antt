@@ -1,4 +1,4 @@
--- What operators answer.
+-- The results of operators.
 use Rattle.std.specs.Prelude.{Bool, not, ◌&&◌, ◌||◌, ℤ, ◌+ℤ◌, ◌-ℤ◌, ◌*ℤ◌, neg_ℤ, int_lt, int_le, if◌then◌else◌, Ok, Err}
 use Rattle.tf_value_data.specs.Tree.{Tree, boolean, whole, unknown, same}
 use Rattle.tf_value_data.specs.Known.{known}
@@ -21,7 +21,7 @@ negate_value unknown = Ok unknown
 negate_value (whole z) = whole_value (neg_ℤ z)
 negate_value _ = Err WrongKind
 
--- what an operator before its operand answers
+-- the result of a prefix operator
 abbrev pub unary_value : Prefix → Tree → Answer
 unary_value Not t = not_value t
 unary_value Negate t = negate_value t
@@ -43,7 +43,7 @@ wholes_value Subtract y z = whole_value (y -ℤ z)
 wholes_value Multiply y z = whole_value (y *ℤ z)
 wholes_value _ y z = Err WrongKind
 
--- Both operands are of the kind that the operator takes; where one is unknown, so is the result.
+-- Both operands must be of the kind that the operator takes. If one is unknown, so is the result.
 abbrev pub scalars_value : Operator → Tree → Tree → Answer
 scalars_value op unknown u = Ok unknown
 scalars_value op t unknown = Ok unknown
@@ -51,8 +51,8 @@ scalars_value op (boolean b) (boolean c) = truths_value op b c
 scalars_value op (whole y) (whole z) = wholes_value op y z
 scalars_value op _ _ = Err WrongKind
 
--- `==` takes values of any kinds, which are equal where kind and value are; an unknown part of an operand
--- gives an unknown result.
+-- `==` takes values of any kinds. They are equal if kind and value are. If a part of an operand is unknown, so is the
+-- result.
 abbrev pub equal_value : Tree → Tree → Answer
 equal_value t u = if known t && known u then Ok (boolean (same t u)) else Ok unknown
 
@@ -60,7 +60,7 @@ equal_value t u = if known t && known u then Ok (boolean (same t u)) else Ok unk
 abbrev pub unequal_value : Tree → Tree → Answer
 unequal_value t u = if known t && known u then Ok (boolean (not (same t u))) else Ok unknown
 
--- what an operator between two operands answers
+-- the result of a binary operator
 abbrev pub binary_value : Operator → Tree → Tree → Answer
 binary_value Equal t u = equal_value t u
 binary_value NotEqual t u = unequal_value t u

@@ -6,7 +6,7 @@ ghost use Rattle.tf_value_data.specs.Tree.{tree_of};
 use tf_expr_syntax::EvalFault;
 use tf_value_data::{Value, is_within_limits};
 
-/// A value within the limits on weight and depth. It is measured once, and whoever has it need not measure it again.
+/// A value within the limits on weight and depth. It is measured only once.
 #[derive(Debug, Drop)]
 pub struct Bounded {
     value: Value,
@@ -20,7 +20,7 @@ impl Bounded {
     ghost use Rattle.tf_expr_operators.specs.Answer.{limited};
     ghost use Rattle.tf_expr_operators.specs.Bounded.{AnswersBounded, bounded_tree};
 
-    /// The value itself; refused `TooLarge` exactly where it is above the limits.
+    /// Wraps a value. Fails with `TooLarge` exactly if it is above the limits.
     pub fn new(value: Value) -> Result<Bounded, EvalFault>
         ensures { AnswersBounded (limited (tree_of value)) result }
     {
@@ -31,7 +31,7 @@ impl Bounded {
         }
     }
 
-    /// A value that is known to be within the limits, which it has to be. It isn't measured.
+    /// Wraps a value without measuring it. Requires that it is within the limits.
     pub fn of(value: Value) -> Bounded
         requires { IsWithinLimits (tree_of value) }
         ensures { bounded_tree result ≡ tree_of value }
@@ -39,7 +39,7 @@ impl Bounded {
         Bounded { value }
     }
 
-    /// The value where it stands.
+    /// Returns a reference to the value.
     pub fn value(&self) -> &Value
         ensures same { tree_of result.now ≡ bounded_tree self.now }
         ensures within { limited (bounded_tree self.now) ≡ Ok (tree_of result.now) }

@@ -1,4 +1,4 @@
-//! Values made of values, and the limits on them.
+//! Lists and maps of values, and the limits on values.
 
 ghost use Rattle.tf_value_data.specs.Tree.{tree_of, items_view, entries_view};
 ghost use Rattle.tf_expr_operators.specs.Answer.{Answers, Shows, limited as limited_value, list_value, map_value};
@@ -7,7 +7,7 @@ use std::collections::BTreeMap;
 use tf_expr_syntax::EvalFault;
 use tf_value_data::{Value, is_within_limits};
 
-/// The value itself; refused `TooLarge` exactly where it is above the limits on weight or depth.
+/// Returns the value itself. Fails with `TooLarge` exactly if it is above the limits on weight or depth.
 pub fn limited(value: Value) -> Result<Value, EvalFault>
     ensures { Answers (limited_value (tree_of value)) result }
 {
@@ -18,7 +18,7 @@ pub fn limited(value: Value) -> Result<Value, EvalFault>
     }
 }
 
-/// The same of a value where it stands.
+/// Like `limited`, for a borrowed value.
 pub fn limited_at(value: &Value) -> Result<&Value, EvalFault>
     ensures { Shows (limited_value (tree_of value.now)) result }
 {
@@ -29,14 +29,14 @@ pub fn limited_at(value: &Value) -> Result<&Value, EvalFault>
     }
 }
 
-/// A list of values, which may be unknown; refused `TooLarge` exactly where it is above the limits.
+/// Makes a list of values, which may be unknown. Fails with `TooLarge` exactly if it is above the limits.
 pub fn list(items: Vec<Value>) -> Result<Value, EvalFault>
     ensures { Answers (list_value (items_view items.items)) result }
 {
     limited(Value::List(items))
 }
 
-/// A map of values, which may be unknown; refused `TooLarge` exactly where it is above the limits.
+/// Makes a map of values, which may be unknown. Fails with `TooLarge` exactly if it is above the limits.
 pub fn map(entries: BTreeMap<String, Value>) -> Result<Value, EvalFault>
     ensures { Answers (map_value (entries_view entries.entries)) result }
 {

@@ -16,11 +16,13 @@ use std::alloc::Global;
 use tf_expr_syntax::{EvalFault, Function};
 use tf_value_data::{Value, is_known};
 
-/// What a function answers to as many arguments as it takes; `Unknown` where an argument is `Unknown`, and for
-/// `join` and `toset` where any part of an argument is unknown. An argument that is only read isn't copied.
+/// Calls a function with as many arguments as it takes. Returns `Unknown` if an argument is `Unknown`, and for `join`
+/// and `toset` if any part of an argument is unknown. An argument that is only read isn't copied.
 ///
-/// Refused `WrongKind` exactly where an argument is of a kind that the function doesn't take, `TooLarge`
-/// exactly where the result is above the limits, and else only where there is no memory.
+/// # Errors
+///
+/// Fails with `WrongKind` exactly if the function doesn't take an argument of that kind, with `TooLarge` exactly if
+/// the result is above the limits, and otherwise only if memory runs out.
 pub fn call(
     alloc: Global,
     function: Function,
@@ -51,7 +53,7 @@ pub fn call(
     }
 }
 
-// Maps in one, or lists.
+// Merges maps, or concatenates lists.
 fn in_one(alloc: Global, function: Function, arguments: Vec<Value>) -> Result<Value, EvalFault>
     ensures merge { function ≡ Merge → Gives (merge_value (items_view arguments.items)) result }
     ensures concat { function ≡ Concat → Gives (concat_value (items_view arguments.items)) result }
@@ -65,7 +67,7 @@ fn in_one(alloc: Global, function: Function, arguments: Vec<Value>) -> Result<Va
     }
 }
 
-// How many elements a list, a map or a set has.
+// Returns how many elements a list, a map or a set has.
 fn length(argument: &Value) -> Result<Value, EvalFault>
     ensures { Answers (length_value (tree_of argument.now)) result }
 {
@@ -87,7 +89,7 @@ fn count(elements: usize) -> Result<Value, EvalFault>
     }
 }
 
-// The items of a list, joined, with a separator between each two.
+// Joins the items of a list, with a separator between each two.
 fn join(alloc: Global, separator: &Value, list: &Value) -> Result<Value, EvalFault>
     ensures { Gives (join_value (tree_of separator.now) (tree_of list.now)) result }
 {

@@ -11,7 +11,7 @@ use std::collections::{BTreeMap, BTreeSet};
 use tf_expr_syntax::EvalFault;
 use tf_value_data::{Value, is_known};
 
-// The keys of a map.
+// Returns the keys of a map.
 pub(crate) fn keys(alloc: Global, argument: &Value) -> Result<Value, EvalFault>
     ensures { Gives (keys_value (tree_of argument.now)) result }
 {
@@ -33,7 +33,7 @@ fn key_texts(alloc: Global, entries: &BTreeMap<String, Value>) -> Result<Vec<Val
     Ok(texts)
 }
 
-// What stands at the keys of a map.
+// Returns the values of a map.
 pub(crate) fn values(alloc: Global, argument: Value) -> Result<Value, EvalFault>
     ensures { Gives (values_value (tree_of argument)) result }
 {
@@ -44,7 +44,7 @@ pub(crate) fn values(alloc: Global, argument: Value) -> Result<Value, EvalFault>
     }
 }
 
-// Maps in one.
+// Merges maps.
 pub(crate) fn merge(alloc: Global, arguments: Vec<Value>) -> Result<Value, EvalFault>
     ensures { Gives (entries_value (merged_onto no_entries (items_view arguments.items))) result }
 {
@@ -58,7 +58,7 @@ pub(crate) fn merge(alloc: Global, arguments: Vec<Value>) -> Result<Value, EvalF
     map(merged)
 }
 
-// Puts entries over others.
+// Inserts entries into a map, in place of those with the same keys.
 fn lay_over(
     base: &mut BTreeMap<String, Value>,
     entries: BTreeMap<String, Value>,
@@ -71,7 +71,7 @@ fn lay_over(
     Ok(())
 }
 
-// Lists, one behind the other.
+// Concatenates lists.
 pub(crate) fn concat(alloc: Global, arguments: Vec<Value>) -> Result<Value, EvalFault>
     ensures { Gives (items_value (concatenated (items_view arguments.items))) result }
 {
@@ -88,7 +88,7 @@ pub(crate) fn concat(alloc: Global, arguments: Vec<Value>) -> Result<Value, Eval
     list(joined)
 }
 
-// The set of a list's texts; a set as it is.
+// Returns the set of a list's texts, and a set unchanged.
 pub(crate) fn toset(alloc: Global, argument: Value) -> Result<Value, EvalFault>
     ensures { Gives (toset_value (tree_of argument)) result }
 {
@@ -123,7 +123,7 @@ fn set_of_texts(alloc: Global, items: Vec<Value>) -> Result<Value, EvalFault>
     Ok(Value::Set(texts))
 }
 
-// Whether one of several values is unknown as a whole.
+// Returns whether one of several values is unknown as a whole.
 pub(crate) fn has_unknown(values: &Vec<Value>) -> bool
     ensures { result ≡ any_unknown (items_view values.now.items) }
 {

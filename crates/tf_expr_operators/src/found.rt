@@ -1,4 +1,4 @@
-//! Values that were found where they stand, and values that were made.
+//! Values that are borrowed, and values that were made.
 
 ghost use Rattle.std.specs.Prelude.{◌≡◌, IfOk, map as each};
 ghost use Rattle.tf_value_data.specs.Tree.{list, map, tree_of, items_view, entries_view, get};
@@ -15,17 +15,17 @@ use std::collections::BTreeMap;
 use tf_expr_syntax::{EvalFault, Operator, Prefix};
 use tf_value_data::{Value, find};
 
-/// A value: one that stands somewhere, and isn't copied, or one that was made.
+/// A value: borrowed, and so not copied, or made.
 #[derive(Drop)]
 pub enum Found<'a> {
-    /// A value where it stands.
+    /// A borrowed value.
     At(&'a Value),
     /// A value that was made.
     Made(Value),
 }
 
 impl<'a> Found<'a> {
-    /// The value.
+    /// Returns a reference to the value.
     pub fn value(&self) -> &Value
         ensures { tree_of result.now ≡ found_tree self.now }
     {
@@ -36,7 +36,7 @@ impl<'a> Found<'a> {
     }
 }
 
-/// The value as one's own: a copy of one that stands somewhere. Refused only where there is no memory.
+/// Returns the value as an owned one, and copies a borrowed value. Fails only if memory runs out.
 pub fn owned(found: Found<'_>) -> Result<Value, AllocError>
     ensures { IfOk result (λ v. tree_of v ≡ found_tree found.entry) }
 {
@@ -46,7 +46,7 @@ pub fn owned(found: Found<'_>) -> Result<Value, AllocError>
     }
 }
 
-/// The same of several values.
+/// Like `owned`, for several values.
 pub fn all_owned(alloc: Global, found: Vec<Found<'_>>) -> Result<Vec<Value>, AllocError>
     ensures { IfOk result (λ v. each tree_of v.items ≡ each found_tree found.entry.items) }
 {
@@ -57,7 +57,7 @@ pub fn all_owned(alloc: Global, found: Vec<Found<'_>>) -> Result<Vec<Value>, All
     Ok(values)
 }
 
-/// What was answered, as found.
+/// Wraps the answer of an operation.
 pub fn made<'a>(answer: Result<Value, EvalFault>) -> Result<Found<'a>, EvalFault>
     ensures exact { (a : Answer) → Answers a answer → FindsExactly a result }
     ensures or_no_memory { (a : Answer) → Gives a answer → Finds a result }
@@ -68,7 +68,7 @@ pub fn made<'a>(answer: Result<Value, EvalFault>) -> Result<Found<'a>, EvalFault
     }
 }
 
-/// What stands at a name in a map, where it stands; else as `attribute` answers.
+/// Returns the value at a name of a map, borrowed if the map is. Otherwise does as `attribute`.
 pub fn attribute_of<'a>(found: Found<'a>, name: &str) -> Result<Found<'a>, EvalFault>
     ensures { FindsExactly (attribute_value (found_tree found.entry) name.now) result }
 {
@@ -78,7 +78,8 @@ pub fn attribute_of<'a>(found: Found<'a>, name: &str) -> Result<Found<'a>, EvalF
     }
 }
 
-/// What stands at a text in a map, or at a whole number in a list, where it stands; else as `index` answers.
+/// Returns the value at a text of a map or at a whole number of a list, borrowed if that is. Otherwise does as
+/// `index`.
 pub fn index_of<'a>(found: Found<'a>, place: Found<'_>) -> Result<Found<'a>, EvalFault>
     ensures { FindsExactly (index_value (found_tree found.entry) (found_tree place.entry)) result }
 {
@@ -88,14 +89,14 @@ pub fn index_of<'a>(found: Found<'a>, place: Found<'_>) -> Result<Found<'a>, Eva
     }
 }
 
-/// What `unary` answers to a value that was found.
+/// Applies `unary` to a value.
 pub fn unary_of<'a>(prefix: Prefix, operand: Found<'_>) -> Result<Found<'a>, EvalFault>
     ensures { FindsExactly (unary_value prefix (found_tree operand.entry)) result }
 {
     made(unary(prefix, operand.value()))
 }
 
-/// What `binary` answers to values that were found.
+/// Applies `binary` to two values.
 pub fn binary_of<'a>(
     operator: Operator,
     left: Found<'_>,
@@ -106,7 +107,7 @@ pub fn binary_of<'a>(
     made(binary(operator, left.value(), right.value()))
 }
 
-/// What `list` answers to values that were found; refused too where there is no memory.
+/// Applies `list` to values. Fails also if memory runs out.
 pub fn list_of<'a>(alloc: Global, items: Vec<Found<'_>>) -> Result<Found<'a>, EvalFault>
     ensures { Finds (list_value (found_items items.entry.items)) result }
 {
@@ -114,7 +115,7 @@ pub fn list_of<'a>(alloc: Global, items: Vec<Found<'_>>) -> Result<Found<'a>, Ev
     made(list(items))
 }
 
-// What was shown, as found.
+// Wraps the answer of an operation that borrows.
 fn seen(answer: Result<&Value, EvalFault>) -> Result<Found<'_>, EvalFault>
     ensures { (a : Answer) → Shows a answer.entry → FindsExactly a result }
 {

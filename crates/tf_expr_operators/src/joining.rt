@@ -8,27 +8,27 @@ use std::alloc::{AllocError, Global};
 use tf_expr_syntax::EvalFault;
 use tf_value_data::{MAX_WEIGHT, Value};
 
-/// Texts and values, one behind the other, that are joined to a text: a template's texts and the values of its
-/// interpolations. Texts, whole numbers and truth values count as texts; null, lists, maps and sets don't, and an
-/// `Unknown` among the values makes the result `Unknown`.
+/// Texts and values that are joined to one text: a template's texts and the values of its interpolations. Texts,
+/// whole numbers and truth values have texts. Null, lists, maps and sets don't. An `Unknown` among the values makes
+/// the result `Unknown`.
 ///
-/// It holds what the values so far are joined to, so no more than a value may hold, however many they are.
+/// It holds only the joined text so far, so no more than a value may hold, however many values are pushed.
 #[derive(Drop)]
 pub struct Joiner {
     alloc: Global,
     joined: Joined,
 }
 
-/// What values are joined to.
+/// The result of joining the values so far.
 #[derive(Drop)]
 enum Joined {
     /// A text within the limits.
     Text(String),
     /// A text above the limits.
     TooLarge,
-    /// No text, since a value is of a kind that has none.
+    /// No text, because a value is of a kind that has none.
     WrongKind,
-    /// It isn't known, since a value is `Unknown`.
+    /// Unknown, because a value is `Unknown`.
     Unknown,
 }
 
@@ -39,7 +39,7 @@ impl Joiner {
     ghost use Rattle.tf_expr_operators.specs.Joining.{text_of};
     ghost use Rattle.tf_expr_operators.specs.Joiner.{answer_so_far, Joins};
 
-    /// Nothing yet: it is joined to the empty text.
+    /// Returns a joiner of nothing, whose result is the empty text.
     pub fn new(alloc: Global) -> Joiner
         ensures { Joins result no_items }
     {
@@ -49,7 +49,7 @@ impl Joiner {
         }
     }
 
-    /// Joins a text to what there is. Refused only where there is no memory, and then nothing is joined.
+    /// Appends a text. Fails only if memory runs out, and then appends nothing.
     pub fn push_text(&mut self, literal: &str) -> Result<(), AllocError>
         ensures ok { OnOk result ((ts : Items) → Joins self.old ts → Joins self.new (item_behind ts (text literal.now))) }
         ensures err { OnErr result (answer_so_far self.new ≡ answer_so_far self.old) }
@@ -63,8 +63,8 @@ impl Joiner {
         Ok(())
     }
 
-    /// Joins a value to what there is. Refused only where there is no memory, and then nothing is joined; that
-    /// a value has no text is refused in the end.
+    /// Appends a value. Fails only if memory runs out, and then appends nothing. If a value has no text, `finish`
+    /// fails.
     pub fn push_value(&mut self, value: &Value) -> Result<(), AllocError>
         ensures ok { OnOk result ((ts : Items) → Joins self.old ts → Joins self.new (item_behind ts (tree_of value.now))) }
         ensures err { OnErr result (answer_so_far self.new ≡ answer_so_far self.old) }
@@ -87,7 +87,7 @@ impl Joiner {
         }
     }
 
-    // Notes a value that has no text.
+    // Records a value that has no text.
     fn push_misfit(&mut self)
         ensures { (ts : Items) (t : Tree) → is_unknown t ≡ false → text_of t ≡ None → Joins self.old ts → Joins self.new (item_behind ts t) }
     {
@@ -97,9 +97,9 @@ impl Joiner {
         }
     }
 
-    /// The text that all is joined to, or `Unknown` where a value is `Unknown`. Refused `WrongKind` exactly
-    /// where no value is `Unknown` and one is null, a list, a map or a set, and `TooLarge` exactly where all have
-    /// texts and those, joined, are above the limits.
+    /// Returns the joined text, or `Unknown` if a value is `Unknown`. Fails with `WrongKind` exactly if no value is
+    /// `Unknown` and one is null, a list, a map or a set. Fails with `TooLarge` exactly if all have texts and the
+    /// joined text is above the limits.
     pub fn finish(self) -> Result<Value, EvalFault>
         ensures { Answers (answer_so_far self) result }
     {
@@ -112,14 +112,14 @@ impl Joiner {
     }
 }
 
-// Whether two texts, joined, are a value within the limits.
+// Returns whether two texts, joined, are a value within the limits.
 fn fits(text: &str, literal: &str) -> bool
     ensures { IsTrue result ↔ IsWithinLimits (text_tree (text.now ++ literal.now)) }
 {
     (text.len() as u64).saturating_add(literal.len() as u64) < MAX_WEIGHT
 }
 
-// The name of a truth value.
+// Returns the name of a truth value.
 fn truth_name(truth: bool) -> &'static str
     ensures { result.now ≡ (if truth then codes "true" else codes "false") }
 {

@@ -2,9 +2,9 @@
 
 //! The operators and functions of expressions, on values.
 //!
-//! The definitions in `specs/` say what each answers, a value or one fault: where an operand is unknown, the
-//! result is unknown; then the kinds are tested, then whether a number is too large or a part is missing, and
-//! then the limits on values. `laws` has what holds of the definitions.
+//! The definitions in `specs/` say what each returns, a value or one fault. If an operand is unknown, the result is
+//! unknown. Then the kinds are tested, then whether a number is too large or a part is missing, and then the limits
+//! on values. `laws` has the laws of the definitions.
 
 mod bounded;
 mod building;

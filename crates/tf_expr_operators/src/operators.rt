@@ -9,9 +9,9 @@ ghost use Rattle.tf_expr_operators.specs.Operators.{unary_value, binary_value, e
 use tf_expr_syntax::{EvalFault, Operator, Prefix};
 use tf_value_data::{Value, is_known};
 
-/// What an operator before its operand answers: `!` of a truth value, `-` of a whole number; `Unknown` of
-/// `Unknown`. Refused `WrongKind` exactly where the operand is of another kind, and `Overflow` exactly where
-/// the result is beyond 64 bits.
+/// Applies a prefix operator: `!` to a truth value, `-` to a whole number. The result for `Unknown` is `Unknown`.
+/// Fails with `WrongKind` exactly if the operand is of another kind, and with `Overflow` exactly if the result is
+/// beyond 64 bits.
 pub fn unary(prefix: Prefix, operand: &Value) -> Result<Value, EvalFault>
     ensures { Answers (unary_value prefix (tree_of operand.now)) result }
 {
@@ -23,10 +23,10 @@ pub fn unary(prefix: Prefix, operand: &Value) -> Result<Value, EvalFault>
     }
 }
 
-/// What an operator between two operands answers. `==` and `!=` take values of any kinds, and answer `Unknown`
-/// where a part of an operand is unknown. The others answer `Unknown` where an operand is `Unknown`; they take
-/// two truth values (`||`, `&&`) or two whole numbers (comparisons and arithmetic), and are refused `WrongKind`
-/// exactly where the operands are of other kinds, and `Overflow` exactly where the result is beyond 64 bits.
+/// Applies a binary operator. `==` and `!=` take values of any kinds, and return `Unknown` if a part of an operand is
+/// unknown. The others return `Unknown` if an operand is `Unknown`. They take two truth values (`||`, `&&`) or two
+/// whole numbers (comparisons and arithmetic). They fail with `WrongKind` exactly if the operands are of other kinds,
+/// and with `Overflow` exactly if the result is beyond 64 bits.
 pub fn binary(operator: Operator, left: &Value, right: &Value) -> Result<Value, EvalFault>
     ensures { Answers (binary_value operator (tree_of left.now) (tree_of right.now)) result }
 {
@@ -37,7 +37,7 @@ pub fn binary(operator: Operator, left: &Value, right: &Value) -> Result<Value, 
     }
 }
 
-// Whether two values are equal; unknown where a part of one is.
+// Returns whether two values are equal; unknown if a part of one is.
 fn equal(left: &Value, right: &Value) -> Value
     ensures { equal_value (tree_of left.now) (tree_of right.now) ≡ Ok (tree_of result) }
 {
@@ -48,7 +48,7 @@ fn equal(left: &Value, right: &Value) -> Value
     }
 }
 
-// Whether two values differ; unknown where a part of one is.
+// Returns whether two values differ; unknown if a part of one is.
 fn unequal(left: &Value, right: &Value) -> Value
     ensures { unequal_value (tree_of left.now) (tree_of right.now) ≡ Ok (tree_of result) }
 {
@@ -59,7 +59,7 @@ fn unequal(left: &Value, right: &Value) -> Value
     }
 }
 
-// What an operator other than `==` and `!=` answers.
+// Applies an operator other than `==` and `!=`.
 fn scalars(operator: Operator, left: &Value, right: &Value) -> Result<Value, EvalFault>
     ensures { Answers (scalars_value operator (tree_of left.now) (tree_of right.now)) result }
 {
@@ -107,7 +107,7 @@ fn wholes(operator: Operator, left: i64, right: i64) -> Result<Value, EvalFault>
     }
 }
 
-// A whole number, where it is one of 64 bits.
+// Returns a whole number. Fails with `Overflow` if it isn't one of 64 bits.
 pub(crate) fn whole(number: Option<i64>) -> Result<Value, EvalFault>
     ensures { (z : ℤ) → SomeIff number (FitsSigned w64 z) z → Answers (whole_value z) result }
 {

@@ -8,8 +8,8 @@ use std::collections::BTreeMap;
 use tf_expr_syntax::EvalFault;
 use tf_value_data::Value;
 
-/// What stands at a name in a map; `Unknown` of `Unknown`. Refused `WrongKind` exactly where the value is of
-/// another kind, and `Missing` exactly where the map hasn't the name.
+/// Returns the value at a name of a map, and `Unknown` for `Unknown`. Fails with `WrongKind` exactly if the value is
+/// of another kind, and with `Missing` exactly if the map lacks the name.
 pub fn attribute(value: Value, name: &str) -> Result<Value, EvalFault>
     ensures { Answers (attribute_value (tree_of value) name.now) result }
 {
@@ -20,9 +20,9 @@ pub fn attribute(value: Value, name: &str) -> Result<Value, EvalFault>
     }
 }
 
-/// What stands at a text in a map, or at a whole number, from 0 on, in a list; `Unknown` where either operand
-/// is `Unknown`. Refused `WrongKind` exactly where the operands are of other kinds, and `Missing` exactly where
-/// nothing stands there: a negative number isn't counted from the end.
+/// Returns the value at a text of a map, or at a whole number, from 0 on, of a list. Returns `Unknown` if either
+/// operand is `Unknown`. Fails with `WrongKind` exactly if the operands are of other kinds, and with `Missing`
+/// exactly if there is no such key or item. A negative number isn't counted from the end.
 pub fn index(value: Value, place: &Value) -> Result<Value, EvalFault>
     ensures { Answers (index_value (tree_of value) (tree_of place.now)) result }
 {

@@ -3,7 +3,7 @@ use Rattle.std.specs.Prelude.{◌≡◌, ◌++◌, ℕ, List, map, string_bytes}
 use Rattle.tf_expr_syntax.specs.TemplateNames.{Pair, reference_of}
 use Rattle.tf_expr_syntax.specs.declared.names.Names.{Names}
 
--- these references and these names of calls, behind what was found before
+-- the walk adds these references and these names of calls after those found before
 abbrev pub Adds : Names → Names → List Pair → List (List ℕ) → Type 0
 Adds old new named called =
     (map (λ r. reference_of r.now) new.references.items ≡ map (λ r. reference_of r.now) old.references.items ++ named)

@@ -4,7 +4,7 @@ use Rattle.tf_expr_syntax.specs.TemplateNames.{Pair, named, called}
 use Rattle.tf_expr_syntax.specs.TemplateTree.{Woven}
 use Rattle.tf_expr_syntax.specs.ExprTree.{Tree, null, boolean, whole, template, list, map, Trees, no_trees, tree, Entries, no_entries, entry}
 
--- what is gathered of its templates, one after another
+-- what `of` gives for each of its templates, one after another
 abbrev mutual
   pub gathered : {A : Type 0} → (Woven → List A) → Tree → List A
   gathered of null = []
@@ -22,7 +22,7 @@ abbrev mutual
   gathered_below of no_entries = []
   gathered_below of (entry k t es) = gathered of t ++ gathered_below of es
 
--- each reference of its templates, as often as it stands there
+-- each reference in its templates, with repetition
 abbrev pub named_by : Tree → List Pair
 named_by t = gathered named t
 
@@ -32,7 +32,7 @@ named_among ts = gathered_among named ts
 abbrev pub named_below : Entries → List Pair
 named_below es = gathered_below named es
 
--- the name of each function that its templates call, as often as it is called
+-- the name of each function that its templates call, with repetition
 abbrev pub called_by : Tree → List (List ℕ)
 called_by t = gathered called t
 

@@ -1,4 +1,4 @@
--- What an expression is, as plain data: no pointers, no capacities.
+-- Expressions as plain data: no pointers, no capacities.
 use Rattle.std.specs.Prelude.{ℕ, ℤ, Bool, if◌then◌else◌, Option, Some, None, List, [], ◌∷◌, map as each, String, string_bytes}
 use Rattle.std.specs.Cmp.Lexicographic.{slice_cmp}
 use Rattle.std.specs.Ordering.{nat_cmp, match_ordering}
@@ -46,7 +46,7 @@ level (Expr-F.Template t) = template (template_view t)
 level (Expr-F.List v) = list (trees_of v.items)
 level (Expr-F.Map m) = map (entries_of m.entries)
 
--- the tree that an `Expr` stands for
+-- the tree that an `Expr` represents
 abbrev pub tree_of : Expr → Tree
 tree_of = fold-Expr Tree level
 
@@ -58,7 +58,7 @@ trees_view es = trees_of (each tree_of es)
 abbrev pub entries_view : List (String Global × Expr) → Entries
 entries_view es = entries_of (each (λ e. (e.0, tree_of e.1)) es)
 
--- what stands at a name
+-- the tree at a name
 abbrev pub get : List ℕ → Entries → Option Tree
 get k no_entries = None
 get k (entry l t es) = if bytes_eq k l then Some t else get k es

@@ -1,4 +1,4 @@
--- Which functions an expression may call, by their names, and how many arguments each takes.
+-- Which functions an expression may call, and how many arguments each takes.
 use Rattle.std.specs.Prelude.{ℕ, ◌==◌, Bool, nat_lt, if◌then◌else◌, List, codes, Option, Some, None}
 use Rattle.std.specs.Str.{bytes_eq}
 use Rattle.tf_expr_syntax.specs.declared.function.Function.{Function}

@@ -3,8 +3,8 @@ use Rattle.std.specs.Prelude.{ℕ, List, [], ◌∷◌, ◌++◌, string_bytes}
 use Rattle.tf_expr_syntax.specs.TemplateTree.{Tree, number, truth, null, quoted, reference, call, group, listed, attribute, index, unary, binary, conditional, Trees, no_trees, tree, Parts, no_parts, part, Woven}
 use Rattle.tf_expr_syntax.specs.declared.tree.Reference.{Reference}
 
--- What is gathered from left to right, of each reference by its two names, and of each call by its name, before
--- what its arguments give; both branches of a conditional count.
+-- What `named` gives for each reference's two names and `called` for each call's name, from left to right. A call
+-- comes before its arguments, and both branches of a conditional count.
 abbrev mutual
   pub gathered : {A : Type 0} → (List ℕ → List ℕ → List A) → (List ℕ → List A) → Tree → List A
   gathered named called (number n) = []
@@ -36,21 +36,21 @@ Pair = List ℕ × List ℕ
 abbrev pub reference_of : Reference → Pair
 reference_of r = (string_bytes r.first, string_bytes r.name)
 
--- a reference alone
+-- only a reference
 abbrev pub one_name : List ℕ → List ℕ → List Pair
 one_name a b = (a, b) ∷ []
 
 abbrev pub no_name : List ℕ → List Pair
 no_name f = []
 
--- the name of a call alone
+-- only the name of a call
 abbrev pub one_call : List ℕ → List (List ℕ)
 one_call f = f ∷ []
 
 abbrev pub no_call : List ℕ → List ℕ → List (List ℕ)
 no_call a b = []
 
--- each reference, as often as it stands there
+-- each reference, with repetition
 abbrev pub named_by : Tree → List Pair
 named_by t = gathered one_name no_name t
 
@@ -63,7 +63,7 @@ named_between ps = gathered_between one_name no_name ps
 abbrev pub named : Woven → List Pair
 named w = named_between w.0
 
--- the name of each call, as often as it stands there, before those of the calls among its arguments
+-- the name of each call, with repetition, before those of the calls among its arguments
 abbrev pub called_by : Tree → List (List ℕ)
 called_by t = gathered no_call one_call t
 

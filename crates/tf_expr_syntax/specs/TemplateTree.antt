@@ -8,7 +8,7 @@ use Rattle.tf_expr_syntax.specs.declared.tree.Template.{Template, Template-F, fo
 use Rattle.tf_expr_syntax.specs.declared.tree.Term.{Term, fold-Term}
 use Rattle.tf_expr_syntax.specs.declared.tree.Term.TheOpen.{Term-F}
 
--- an expression, expressions in a row, and interpolations, each behind its text
+-- an expression, a sequence of expressions, and interpolations, each after its text
 mutual
   pub data Tree : Type 0 where
     number : ℕ → Tree
@@ -33,12 +33,12 @@ mutual
     no_parts : Parts
     part : List ℕ → Tree → Parts → Parts
 
--- a template: its interpolations, and the text behind the last
+-- a template: its interpolations, and the text after the last
 abbrev pub Woven : Type 0
 Woven = Parts × List ℕ
 
--- A number, a truth value, null, a reference and a template without interpolation have depth 1. Each other
--- tree has 1 more than the deepest of its parts, and 1 where it has no parts.
+-- A number, a truth value, null, a reference and a template without interpolation have depth 1. Each other tree has 1
+-- more than the deepest of its parts, and 1 if it has no parts.
 abbrev mutual
   pub tree_depth : Tree → ℕ
   tree_depth (number n) = 1
@@ -80,8 +80,8 @@ level_of Add = 6
 level_of Subtract = 6
 level_of Multiply = 7
 
--- the rule of the grammar that a tree belongs to: 1 is a conditional, 2 to 7 are binary operators, 8 is an
--- operator before its operand, 9 an operand, and 10 what an attribute or an index may follow
+-- the level of a tree in the grammar: 1 is a conditional, 2 to 7 are binary operators, 8 is a prefix operator with
+-- its operand, 9 an operand, and 10 an operand that an attribute or an index may follow
 abbrev pub level : Tree → ℕ
 level (number n) = 9
 level (truth b) = 9
@@ -97,7 +97,7 @@ level (unary op t) = 8
 level (binary op a b) = level_of op
 level (conditional c a b) = 1
 
--- a tree without where it lies in memory
+-- trees without their pointers
 abbrev pub trees_of : List Tree → Trees
 trees_of [] = no_trees
 trees_of (t ∷ ts) = tree t (trees_of ts)

@@ -33,11 +33,11 @@ impl Clone for Reference {
     }
 }
 
-/// An equal template.
+/// Returns an equal template.
 ///
 /// # Errors
 ///
-/// Only where memory runs out.
+/// Fails only if memory runs out.
 #[cycle(copy)]
 pub fn copy(template: &Template) -> Result<Template, AllocError>
     ensures { IfOk result (λ t. template_view t ≡ template_view template.now) }

@@ -23,7 +23,7 @@ pub enum Expr {
     Map(BTreeMap<String, Expr>),
 }
 
-/// The expression of a name; `None` where there is none.
+/// Returns the expression of a name, or `None` if the name has no expression.
 pub fn find<'a>(entries: &'a BTreeMap<String, Expr>, name: &str) -> Option<&'a Expr>
     ensures { option_map (λ e. tree_of e.now) result ≡ get name.now (entries_view entries.now.entries) }
 {

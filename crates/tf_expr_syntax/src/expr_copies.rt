@@ -24,11 +24,11 @@ impl Clone for Expr {
     }
 }
 
-/// An equal expression.
+/// Returns an equal expression.
 ///
 /// # Errors
 ///
-/// Only where memory runs out.
+/// Fails only if memory runs out.
 pub fn copy_expr(expr: &Expr) -> Result<Expr, AllocError>
     ensures { IfOk result (λ e. tree_of e ≡ tree_of expr.now) }
 {

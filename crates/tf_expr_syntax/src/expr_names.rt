@@ -1,4 +1,4 @@
-//! What an expression names and calls.
+//! The names and calls in an expression.
 
 ghost use Rattle.std.specs.Prelude.{◌≡◌, IfOk, OnOk, map, string_bytes};
 ghost use Rattle.tf_expr_syntax.specs.Adding.{Adds};
@@ -13,11 +13,11 @@ use std::alloc::{AllocError, Global};
 use std::collections::BTreeMap;
 
 impl Expr {
-    /// What the expression's templates name and call, in walk order, as it stands there: no text is copied.
+    /// Returns what the expression's templates name and call, in walk order, by reference: no text is copied.
     ///
     /// # Errors
     ///
-    /// Only where memory runs out.
+    /// Fails only if memory runs out.
     pub fn names_within(&self, alloc: Global) -> Result<Names<'_>, AllocError>
         ensures named { IfOk result (λ n. map (λ r. reference_of r.now) n.references.items ≡ named_by (tree_of self.now)) }
         ensures called { IfOk result (λ n. map (λ f. string_bytes f.now) n.functions.items ≡ called_by (tree_of self.now)) }
@@ -27,11 +27,11 @@ impl Expr {
         Ok(found)
     }
 
-    /// Each reference of the expression's templates, in walk order, as often as it stands there, copied.
+    /// Returns copies of the references in the expression's templates, in walk order, with repetition.
     ///
     /// # Errors
     ///
-    /// Only where memory runs out.
+    /// Fails only if memory runs out.
     pub fn references(&self, alloc: Global) -> Result<Vec<Reference>, AllocError>
         ensures { IfOk result (λ v. map reference_of v.items ≡ named_by (tree_of self.now)) }
     {
@@ -39,12 +39,12 @@ impl Expr {
         copied_references(alloc, names.references.as_slice())
     }
 
-    /// The name of each function that the expression's templates call, in walk order, as often as it is
-    /// called, copied. A call stands before the calls among its arguments.
+    /// Returns copies of the names of the functions that the expression's templates call, in walk order, with
+    /// repetition. A call comes before the calls among its arguments.
     ///
     /// # Errors
     ///
-    /// Only where memory runs out.
+    /// Fails only if memory runs out.
     pub fn functions(&self, alloc: Global) -> Result<Vec<String>, AllocError>
         ensures { IfOk result (λ v. map string_bytes v.items ≡ called_by (tree_of self.now)) }
     {

@@ -1,4 +1,4 @@
-//! What an evaluation can meet.
+//! The faults of an evaluation.
 
 ghost use Rattle.std.specs.Prelude.{◌≡◌, Some};
 ghost use Rattle.tf_expr_syntax.specs.EvalFault.{eval_fault_name};
@@ -12,15 +12,15 @@ use std::fmt;
 pub enum EvalFault {
     /// A whole number is beyond 64 signed bits.
     Overflow,
-    /// A value is of a kind that the operation doesn't take.
+    /// The operation doesn't take a value of this kind.
     WrongKind,
-    /// An index, a key or an attribute isn't there.
+    /// An index, a key or an attribute doesn't exist.
     Missing,
     /// A function has too few or too many arguments.
     Arity,
     /// A value is beyond the limits on weight or depth.
     TooLarge,
-    /// A growth was refused.
+    /// An allocation failed.
     OutOfMemory,
 }
 

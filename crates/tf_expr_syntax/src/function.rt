@@ -3,19 +3,19 @@
 /// A function of expressions.
 #[derive(Clone, Copy, Debug, PartialEq, Eq, Drop)]
 pub enum Function {
-    /// How many elements a list, a map or a set has.
+    /// Returns how many elements a list, a map or a set has.
     Length,
-    /// The keys of a map, in byte order.
+    /// Returns the keys of a map, in byte order.
     Keys,
-    /// What stands at the keys of a map, in their order.
+    /// Returns the values of a map, in the order of their keys.
     Values,
-    /// Maps in one; a later one's value stands at a key of several.
+    /// Merges maps. If several have a key, the last one's value wins.
     Merge,
-    /// Lists, one behind the other.
+    /// Concatenates lists.
     Concat,
-    /// The texts of a list, with a separator between each two.
+    /// Joins the texts of a list, with a separator between each two.
     Join,
-    /// The set of a list's texts.
+    /// Returns the set of a list's texts.
     ToSet,
 }
 
@@ -23,7 +23,7 @@ impl Function {
     ghost use Rattle.std.specs.Prelude.{◌≡◌};
     ghost use Rattle.tf_expr_syntax.specs.Function.{function_named, takes};
 
-    /// The function of a name; `None` where there is no such function.
+    /// Returns the function of a name, or `None` if there is no such function.
     pub fn named(name: &str) -> Option<Function>
         ensures { result ≡ function_named name.now }
     {
@@ -39,7 +39,7 @@ impl Function {
         }
     }
 
-    /// Whether the function takes so many arguments.
+    /// Returns whether the function takes the given number of arguments.
     pub fn takes(self, count: usize) -> bool
         ensures { result ≡ takes self count }
     {

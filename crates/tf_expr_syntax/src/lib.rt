@@ -1,9 +1,9 @@
 //! Syntax trees of templates and expressions.
 //!
-//! A template is a text with interpolations, as `net-${var.name}`, and an expression is a JSON tree whose texts are
-//! templates. The definitions in `specs/` say what each tree is as plain data, how deep it is and how tightly it
-//! binds (`TemplateTree`, `ExprTree`), and what it names and calls (`TemplateNames`, `ExprNames`). Which texts
-//! spell a template, and which JSON trees are an expression, is said where they are read.
+//! A template is a text with interpolations, such as `net-${var.name}`, and an expression is a JSON tree whose texts
+//! are templates. The definitions in `specs/` say what each tree is as plain data, how deep it is and how tightly it
+//! binds (`TemplateTree`, `ExprTree`), and what it names and calls (`TemplateNames`, `ExprNames`). The crates that
+//! read texts and JSON trees say which of them are a template or an expression.
 #![tactic(auto)]
 
 mod copies;

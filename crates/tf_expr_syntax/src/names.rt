@@ -1,4 +1,4 @@
-//! What a template names and calls.
+//! The names and calls in a template.
 
 ghost use Rattle.std.specs.Prelude.{◌≡◌, [], ◌∷◌, ◌++◌, IfOk, OnOk, map, string_bytes};
 ghost use Rattle.tf_expr_syntax.specs.Adding.{Adds};
@@ -8,20 +8,20 @@ ghost use Rattle.tf_expr_syntax.specs.TemplateTree.{parts_view, template_view, t
 use crate::tree::{Reference, Template, Term};
 use std::alloc::{AllocError, Global};
 
-/// What a template names and calls, as it stands there: no text of it is copied.
+/// What a template names and calls, by reference: no text of it is copied.
 #[derive(Drop)]
 pub struct Names<'a> {
-    /// Each reference, from left to right, as often as it stands there.
+    /// Each reference, from left to right, with repetition.
     pub references: Vec<&'a Reference>,
-    /// The name of each function that is called, from left to right, as often as it is called. A call stands before the
-    /// calls among its arguments.
+    /// The name of each function that is called, from left to right, with repetition. A call comes before the calls
+    /// among its arguments.
     pub functions: Vec<&'a String>,
 }
 
 impl<'a> Names<'a> {
     ghost use Rattle.std.specs.Prelude.{◌≡◌, []};
 
-    /// Nothing yet.
+    /// Returns the empty collection.
     pub(crate) fn new(alloc: Global) -> Names<'a>
         ensures named { result.references.items ≡ [] }
         ensures called { result.functions.items ≡ [] }
@@ -33,11 +33,11 @@ impl<'a> Names<'a> {
     }
 }
 
-/// What a template names and calls.
+/// Returns what a template names and calls.
 ///
 /// # Errors
 ///
-/// Only where memory runs out.
+/// Fails only if memory runs out.
 pub fn names_of<'a>(alloc: Global, template: &'a Template) -> Result<Names<'a>, AllocError>
     ensures named { IfOk result (λ n. map (λ r. reference_of r.now) n.references.items ≡ named (template_view template.now)) }
     ensures called { IfOk result (λ n. map (λ f. string_bytes f.now) n.functions.items ≡ called (template_view template.now)) }
@@ -47,11 +47,11 @@ pub fn names_of<'a>(alloc: Global, template: &'a Template) -> Result<Names<'a>, 
     Ok(found)
 }
 
-/// Each reference of a template, from left to right, as often as it stands there, copied.
+/// Returns copies of the references of a template, from left to right, with repetition.
 ///
 /// # Errors
 ///
-/// Only where memory runs out.
+/// Fails only if memory runs out.
 pub fn references(alloc: Global, template: &Template) -> Result<Vec<Reference>, AllocError>
     ensures { IfOk result (λ v. map reference_of v.items ≡ named (template_view template.now)) }
 {
@@ -59,12 +59,12 @@ pub fn references(alloc: Global, template: &Template) -> Result<Vec<Reference>, 
     copied_references(alloc, names.references.as_slice())
 }
 
-/// The name of each function that a template calls, from left to right, as often as it is called, copied. A call
-/// stands before the calls among its arguments.
+/// Returns copies of the names of the functions that a template calls, from left to right, with repetition. A call
+/// comes before the calls among its arguments.
 ///
 /// # Errors
 ///
-/// Only where memory runs out.
+/// Fails only if memory runs out.
 pub fn functions(alloc: Global, template: &Template) -> Result<Vec<String>, AllocError>
     ensures { IfOk result (λ v. map string_bytes v.items ≡ called (template_view template.now)) }
 {
@@ -72,7 +72,7 @@ pub fn functions(alloc: Global, template: &Template) -> Result<Vec<String>, Allo
     copied_texts(alloc, names.functions.as_slice())
 }
 
-/// Some references, copied.
+/// Copies references.
 pub(crate) fn copied_references(
     alloc: Global,
     references: &[&Reference],
@@ -86,7 +86,7 @@ pub(crate) fn copied_references(
     Ok(copies)
 }
 
-/// Some texts, copied.
+/// Copies texts.
 pub(crate) fn copied_texts(alloc: Global, texts: &[&String]) -> Result<Vec<String>, AllocError>
     ensures { IfOk result (λ v. map string_bytes v.items ≡ map (λ t. string_bytes t.now) texts.now) }
 {
@@ -133,7 +133,7 @@ fn add_terms<'a>(terms: &'a Vec<Term>, found: &mut Names<'a>) -> Result<(), Allo
     Ok(())
 }
 
-/// Adds what interpolations name and call.
+/// Adds the names and calls in interpolations.
 #[cycle(names)]
 pub(crate) fn add_parts<'a>(
     parts: &'a Vec<(String, Term)>,

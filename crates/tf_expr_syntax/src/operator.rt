@@ -31,7 +31,7 @@ impl Operator {
     ghost use Rattle.std.specs.Prelude.{◌≡◌};
     ghost use Rattle.tf_expr_syntax.specs.TemplateTree.{level_of};
 
-    /// How tightly the operator binds, from 2 to 7.
+    /// Returns how tightly the operator binds, from 2 to 7.
     pub fn level(self) -> usize
         ensures { result ≡ level_of self }
     {

@@ -2,23 +2,23 @@
 
 use crate::operator::Operator;
 
-/// A template, read: texts and interpolations in turn, and the text behind the last interpolation. Texts
-/// may be empty.
+/// A template that was read: texts and interpolations in turn, and the text after the last interpolation. Texts may
+/// be empty.
 #[derive(Debug, Drop)]
 #[cycle(tree)]
 pub struct Template {
     /// Each interpolation with the text before it.
     pub parts: Vec<(String, Term)>,
-    /// The text behind the last interpolation.
+    /// The text after the last interpolation.
     pub last: String,
 }
 
-/// A name of what a configuration declares, such as `var.n` or `sim_net.a`.
+/// A reference to a name that a configuration declares, such as `var.n` or `sim_net.a`.
 #[derive(Debug, Drop)]
 pub struct Reference {
     /// The name before the dot.
     pub first: String,
-    /// The name behind the dot.
+    /// The name after the dot.
     pub name: String,
 }
 
@@ -67,8 +67,8 @@ impl Term {
     ghost use Rattle.std.specs.Prelude.{◌≡◌};
     ghost use Rattle.tf_expr_syntax.specs.TemplateTree.{level, view};
 
-    /// The rule of the grammar that the expression belongs to: 1 is a conditional, 2 to 7 are binary operators, 8 is
-    /// an operator before its operand, 9 an operand, and 10 what an attribute or an index may follow.
+    /// Returns the level of the expression in the grammar: 1 is a conditional, 2 to 7 are binary operators, 8 is a
+    /// prefix operator with its operand, 9 an operand, and 10 an operand that an attribute or an index may follow.
     pub fn level(&self) -> usize
         ensures { result ≡ level (view self.now) }
     {

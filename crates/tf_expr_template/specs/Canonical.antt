@@ -1,4 +1,4 @@
--- One text for each tree that has any.
+-- One text for each tree that some text spells.
 use Rattle.std.specs.Fmt.{decimal}
 use Rattle.std.specs.Prelude.{◌≡◌, ◌≢◌, ◌<◌, ◌≤◌, ◌^◌, ℕ, Bool, true, false, if◌then◌else◌, ◌||◌, ◌&&◌, ◌==◌, List, [], ◌∷◌, ◌++◌, codes, slice_index}
 use Rattle.std.specs.Str.{IsUtf8}
@@ -15,14 +15,14 @@ use Rattle.tf_expr_template.specs.declared.word.Keyword.TheVariants.{Free}
 abbrev pub IsFreeName : List ℕ → Type 0
 IsFreeName name = (is_name name ≡ true) × (keyword name ≡ Free)
 
--- the last byte of a text, and 0 where it is empty
+-- the last byte of a text, and 0 if it is empty
 abbrev pub last_byte : List ℕ → ℕ
 last_byte [] = 0
 last_byte (b ∷ []) = b
 last_byte (b ∷ c ∷ text) = last_byte (c ∷ text)
 
--- The trees that some text spells: each name is one, each number fits, each part of an operator binds as
--- tightly as the grammar wants, and no text in front of an interpolation ends in `$`.
+-- The trees that some text spells: each name is one, each number fits, each part of an operator binds as tightly as
+-- the grammar requires, and no text before an interpolation ends in `$`.
 abbrev mutual
   pub IsWritable : Tree → Type 0
   IsWritable (number n) = n < 2 ^ 63
@@ -78,8 +78,8 @@ abbrev mutual
 abbrev pub TemplateHasTexts : Woven → Type 0
 TemplateHasTexts w = PartsHaveTexts w.0 × IsUtf8 w.1
 
--- A byte of literal text in front of this byte of it, or of 0 at its end: `$` and `%` are doubled before a
--- brace, and within quotes a quote, a backslash and a line feed are escaped.
+-- A byte of literal text before the next byte, or before 0 at the end: `$` and `%` are doubled before a brace, and
+-- within quotes a quote, a backslash and a line feed are escaped.
 abbrev pub byte_text : Bool → ℕ → ℕ → List ℕ
 byte_text within b next =
     if ((b == 36) || (b == 37)) && (next == 123) then b ∷ b ∷ []
@@ -87,7 +87,7 @@ byte_text within b next =
     else (if within && (b == 10) then codes "\\n"
     else b ∷ []))
 
--- literal text, in front of what follows it
+-- literal text, before what follows it
 abbrev pub literal_text : Bool → List ℕ → List ℕ → List ℕ
 literal_text within [] rest = rest
 literal_text within (b ∷ text) rest = byte_text within b (slice_index text 0) ++ literal_text within text rest
@@ -114,13 +114,13 @@ sign_text Add = codes " + "
 sign_text Subtract = codes " - "
 sign_text Multiply = codes " * "
 
--- a comma and a space before what there is more of
+-- a comma and a space before the next tree, if there is one
 abbrev pub comma_text : Trees → List ℕ
 comma_text no_trees = []
 comma_text (tree t ts) = codes ", "
 
--- A tree, trees in a row and the rest of a template, each in front of what follows it: as `a.b + 1`,
--- `c ? 1 : 2`, `f(1, 2)`, `[1, 2]`, `a.b[0].c`, `!(a.b)` and `"x${a.b}y"`.
+-- A tree, a sequence of trees and the rest of a template, each before what follows it: `a.b + 1`, `c ? 1 : 2`, `f(1,
+-- 2)`, `[1, 2]`, `a.b[0].c`, `!(a.b)` and `"x${a.b}y"`.
 abbrev mutual
   pub tree_text : Tree → List ℕ → List ℕ
   tree_text (number n) rest = decimal n ++ rest

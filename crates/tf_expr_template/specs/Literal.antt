@@ -1,9 +1,8 @@
 -- Literal text of templates, piece by piece.
 use Rattle.std.specs.Prelude.{◌≡◌, ℕ, if◌then◌else◌, ◌&&◌, ◌==◌, List, [], ◌∷◌, ◌++◌, Bool, drop, slice_index}
 
--- What stands at a place of a literal: bytes that stand for these, and what follows them; the beginning of
--- an interpolation, and what follows it; the end of the template, and what follows it; or what may not
--- stand there.
+-- A piece of a literal: the bytes that it means, and what follows them; or the beginning of an interpolation, and
+-- what follows it; or the end of the template, and what follows it; or text that is not allowed here.
 pub data Piece : Type 0 where
   stands : List ℕ → List ℕ → Piece
   opens : List ℕ → Piece
@@ -34,15 +33,15 @@ begun quoted b s =
     else (if quoted && (b == 10) then wrong
     else stands (b ∷ []) s))))
 
--- The piece at the front of a text, within quotes or not: `$${` stands for `${`, `${` opens an
--- interpolation, `%%{` stands for `%{`, and `%{` may not stand there. Within quotes a quote ends the
--- template, a backslash begins an escape, and a line feed and the end of the text may not stand there.
--- Each other byte stands for itself. Past the end of the text a byte counts as 0.
+-- The piece at the front of a text, within quotes or not: `$${` means `${`, `${` opens an interpolation, `%%{` means
+-- `%{`, and `%{` is not allowed. Within quotes a quote ends the template, a backslash begins an escape, and a line
+-- feed and the end of the text are not allowed. Each other byte means itself. Past the end of the text a byte counts
+-- as 0.
 abbrev pub piece : Bool → List ℕ → Piece
 piece quoted [] = if quoted then wrong else closes []
 piece quoted (b ∷ s) = begun quoted b s
 
--- The text at the front of s stands for these bytes, and p follows. It may end at any piece.
+-- The text at the front of s means these bytes, and p follows. It may end at any piece.
 pub data Literal (quoted : Bool) : List ℕ → List ℕ → List ℕ → Type 0 where
   nothing : {s : List ℕ} → Literal quoted [] s s
   more : {bytes text s r p : List ℕ} → piece quoted s ≡ stands bytes r → Literal quoted text r p → Literal quoted (bytes ++ text) s p

@@ -1,4 +1,4 @@
--- What the reader's functions answer.
+-- What the reader's functions return.
 use Rattle.std.specs.Prelude.{◌≡◌, ◌<◌, ◌≤◌, ℕ, suc, Bool, true, false, List, Result, MatchResult}
 use Rattle.std.specs.Borrow.{Bor}
 use Rattle.tf_expr_template.specs.Spelling.{Spells, SpellsList, SpellsParts, Takes, TakesName}
@@ -17,7 +17,7 @@ use Rattle.tf_expr_syntax.specs.declared.operator.Operator.TheVariants.{Subtract
 use Rattle.tf_expr_template.specs.declared.word.Keyword.{Keyword}
 use Rattle.tf_expr_template.specs.declared.word.Keyword.TheVariants.{True, False, Null, Free}
 
--- the level of the tree that a token makes of the one before it, and 0 where it makes none
+-- the level of the tree that a token makes of the one before it, and 0 if it makes none
 abbrev pub binding : TokenKind → ℕ
 binding (Binary op) = level_of op
 binding Question = 1
@@ -49,7 +49,7 @@ closing Square = CloseBracket
 abbrev pub Stops : ℕ → List ℕ → Type 0
 Stops least rest = binding (token_kind rest) < least
 
--- a tree that no operator between or behind trees has made
+-- a tree that is no attribute, index, binary operator or conditional
 abbrev pub IsOperand : Tree → Type 0
 IsOperand (attribute t name) = ⊥
 IsOperand (index t i) = ⊥
@@ -57,14 +57,14 @@ IsOperand (binary op a b) = ⊥
 IsOperand (conditional c a b) = ⊥
 IsOperand _ = Unit {0}
 
--- what follows a tree doesn't go on with its last part
+-- what follows a tree doesn't continue its last part
 abbrev pub Holds : Tree → List ℕ → Type 0
 Holds (unary op t) rest = Stops 8 rest
 Holds (binary op a b) rest = Stops (suc (level_of op)) rest
 Holds (conditional c a b) rest = Stops 1 rest
 Holds _ rest = Unit {0}
 
--- the tree l, and what stands behind it up to rest, is the tree t
+-- the tree l, with the text s after it up to rest, is the tree t
 abbrev pub Turns : Tree → List ℕ → Tree → List ℕ → Type 0
 Turns l s (attribute t name) rest = (t ≡ l) × ((q : List ℕ) × Takes Dot s q × TakesName name q rest × (10 ≤ level t))
 Turns l s (index t i) rest = (t ≡ l) × ((q r : List ℕ) × Takes OpenBracket s q × Spells i q r × Takes CloseBracket r rest × (10 ≤ level t))
@@ -79,27 +79,27 @@ IsRefusal (At left) = Unit {0}
 IsRefusal TooDeep = ⊥
 IsRefusal OutOfMemory = ⊥
 
--- a fault where a tree is spelled: only memory, or the depth, for this reason
+-- a fault although a tree is spelled: only out of memory, or too deep if `deep`
 abbrev pub Fails : TemplateFault → Type 0 → Type 0
 Fails (At left) deep = ⊥
 Fails TooDeep deep = deep
 Fails OutOfMemory deep = Unit {0}
 
--- what was found is spelled at the front of s, and no deeper than the budget
+-- the found tree is spelled at the front of s, and is no deeper than the budget
 abbrev pub IsFound : ℕ → List ℕ → ReadTerm → Type 0
 IsFound budget s f = Spells (view f.term) s f.rest.now × (f.depth ≡ tree_depth (view f.term)) × (f.depth ≤ budget)
 
--- the answer where this tree is spelled
+-- the answer if this tree is spelled
 abbrev pub Answers : ℕ → Tree → List ℕ → Result ReadTerm TemplateFault → Type 0
 Answers budget t rest result =
     MatchResult result (λ f. (view f.term ≡ t) × (f.rest.now ≡ rest)) (λ e. Fails e (budget < tree_depth t))
 
--- the answer is this tree, if the condition holds, or memory runs out
+-- the answer is this tree if the condition holds, unless memory runs out
 abbrev pub Makes : Type 0 → Tree → List ℕ → ℕ → Result ReadTerm TemplateFault → Type 0
 Makes condition t rest depth result =
     MatchResult result (λ f. condition × (view f.term ≡ t) × (f.rest.now ≡ rest) × (f.depth ≡ depth)) (λ e. condition → e ≡ OutOfMemory)
 
--- the answer is what follows a token, if it is of this kind
+-- the answer is what follows a token of this kind, if it comes first
 abbrev pub Passes : TokenKind → List ℕ → Result (Bor (List ℕ)) TemplateFault → Type 0
 Passes k s result = MatchResult result (λ r. (token_kind s ≡ k) × (r.now ≡ after_token s)) (λ e. token_kind s ≡ k → ⊥)
 

@@ -12,12 +12,12 @@ use Rattle.tf_expr_template.specs.declared.word.Keyword.{Keyword}
 use Rattle.tf_expr_template.specs.declared.word.Keyword.TheVariants.{True, False, Null, Free}
 use Rattle.tf_expr_template.specs.Word.{decimal, keyword}
 
--- the first token is of this kind, and this follows it
+-- the first token is of this kind, and `after` follows it
 pub record Takes (k : TokenKind) (s after : List ℕ) : Type 0 where
   pub kind_is : token_kind s ≡ k
   pub after_is : after_token s ≡ after
 
--- the first token is this name
+-- the first token is this name, and `after` follows it
 pub record TakesName (name s after : List ℕ) : Type 0 where
   pub kind_is : token_kind s ≡ Name
   pub word_is : token_word s ≡ name
@@ -57,7 +57,7 @@ abbrev mutual
   Spells (conditional c a b) s rest = (p : List ℕ) × Spells c s p
       × ((q r t : List ℕ) × Takes Question p q × Spells a q r × Takes Colon r t × Spells b t rest × (2 ≤ level c))
 
-  -- the rest of a list up to the token that closes it; a comma may stand behind its last part
+  -- the rest of a list up to the token that closes it; a comma may follow its last part
   pub SpellsList : TokenKind → Trees → List ℕ → List ℕ → Type 0
   SpellsList close no_trees s rest = Takes close s rest
   SpellsList close (tree t ts) s rest = (p : List ℕ) × Spells t s p

@@ -1,4 +1,4 @@
--- What the reader of literals finds, without where it lies in memory.
+-- What the reader of literals finds, without pointers.
 use Rattle.std.specs.Prelude.{◌≡◌, ◌<◌, ◌≤◌, ℕ, Bool, List, length, string_bytes}
 use Rattle.tf_expr_template.specs.Literal.{Piece, stands, opens, closes, wrong, piece, Literal}
 use Rattle.tf_expr_template.specs.declared.literal.LiteralEnd.{LiteralEnd}
@@ -16,13 +16,13 @@ abbrev pub step_of : LiteralStep → Piece
 step_of (Stands text rest) = stands text.now rest.now
 step_of (Ends end) = end_of end
 
--- what follows the end is shorter than this, or, where the template ends, no longer
+-- what follows the end is shorter than n, or no longer than n if the template ends
 abbrev pub EndsWithin : ℕ → LiteralEnd → Type 0
 EndsWithin n (Opens rest) = length rest.now < n
 EndsWithin n (Closes rest) = length rest.now ≤ n
 EndsWithin n Wrong = Unit {0}
 
--- what follows the text is shorter than this
+-- what follows the text is shorter than n
 abbrev pub IsShorter : ℕ → LiteralStep → Type 0
 IsShorter n (Stands text rest) = length rest.now < n
 IsShorter n (Ends end) = EndsWithin n end

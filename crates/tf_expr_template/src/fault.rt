@@ -13,7 +13,8 @@ use std::alloc::AllocError;
 /// Why a text isn't read.
 #[derive(Clone, Copy, Debug, PartialEq, Eq)]
 pub(crate) enum TemplateFault {
-    /// No template begins with the text up to a token; so many bytes are left from there on.
+    /// No template begins with the text up to and with a token. The number is how many bytes are left from that token
+    /// on.
     At(usize),
     /// It is deeper than allowed.
     TooDeep,
@@ -30,14 +31,14 @@ impl<E: Into<AllocError>> From<E> for TemplateFault {
     }
 }
 
-/// The refusal of a token.
+/// Returns the refusal of a token.
 pub(crate) fn refusal(token: Token<'_>) -> TemplateFault
     ensures { IsRefusal result }
 {
     TemplateFault::At(token.word.len().saturating_add(token.rest.len()))
 }
 
-/// The refusal of a token behind an expression. A text that ends within an operator is refused at its end.
+/// Returns the refusal of a token after an expression. A text that ends within an operator is refused at its end.
 pub(crate) fn refusal_behind(token: Token<'_>) -> TemplateFault
     ensures { IsRefusal result }
 {
@@ -47,7 +48,8 @@ pub(crate) fn refusal_behind(token: Token<'_>) -> TemplateFault
     }
 }
 
-/// The refusal of a token that doesn't close a list on the last level: what begins an expression is too deep there.
+/// Returns the refusal of a token that doesn't close a list on the last level. An expression that begins there is too
+/// deep.
 pub(crate) fn last_level(token: Token<'_>) -> TemplateFault
     ensures { begins token.entry.kind ≡ true
         → (token.entry.kind ≡ Number → decimal token.entry.word.now < 2 ^ 63) → result ≡ TooDeep }
@@ -60,7 +62,7 @@ pub(crate) fn last_level(token: Token<'_>) -> TemplateFault
     }
 }
 
-/// What follows the colon that comes next.
+/// Returns the text after a colon, which must be the next token.
 pub(crate) fn pass_colon(text: &str) -> Result<&str, TemplateFault>
     ensures value { Passes Colon text.now result }
     ensures shorter { IfOk result (λ rest. length rest.now < length text.now) }
@@ -72,7 +74,7 @@ pub(crate) fn pass_colon(text: &str) -> Result<&str, TemplateFault>
     Ok(token.rest)
 }
 
-/// What follows the closing brace that comes next.
+/// Returns the text after a closing brace, which must be the next token.
 pub(crate) fn pass_brace(text: &str) -> Result<&str, TemplateFault>
     ensures value { Passes CloseBrace text.now result }
     ensures shorter { IfOk result (λ rest. length rest.now < length text.now) }

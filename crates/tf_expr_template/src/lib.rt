@@ -1,11 +1,10 @@
-//! Templates and expressions, read.
+//! Reading of templates and expressions.
 //!
-//! A template is a text with interpolations, as `net-${var.name}`. The definitions in `specs/` say which
-//! trees a text spells: `Token` and `Literal` what stands at the front of a text by longest match, and
-//! `Spelling` the grammar, by recursion on the tree.
-//! `read_template` answers a tree exactly where the text spells one that is no deeper than `MAX_DEPTH`.
-//! A text spells one tree at most, and a tree that some text spells has a canonical text (`Canonical`,
-//! `laws`). The trees stand in `tf_expr_syntax`.
+//! A template is a text with interpolations, such as `net-${var.name}`. The definitions in `specs/` say which trees a
+//! text spells. `Token` and `Literal` define the front of a text by longest match, and `Spelling` the grammar, by
+//! recursion on the tree. `read_template` returns a tree exactly if the text spells one that is no deeper than
+//! `MAX_DEPTH`, unless memory runs out. A text spells at most one tree, and each tree that some text spells has a
+//! canonical text (`Canonical`, `laws`). The trees are defined in `tf_expr_syntax`.
 #![tactic(auto)]
 
 mod fault;

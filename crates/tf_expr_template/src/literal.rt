@@ -8,34 +8,34 @@ ghost use Rattle.tf_expr_template.specs.Steps.{EndsWithin, IsShorter, IsStretch,
 use crate::scan::{Remainder, after, byte_at, cut, plain_len};
 use std::alloc::{AllocError, Global};
 
-/// What ends a stretch of literal text, and what follows it.
+/// The end of a stretch of literal text, and what follows it.
 #[derive(Clone, Copy, Debug)]
 pub(crate) enum LiteralEnd<'a> {
     /// The beginning of an interpolation.
     Opens(&'a str),
     /// The end of the template.
     Closes(&'a str),
-    /// What may not stand there.
+    /// Text that is not allowed here.
     Wrong,
 }
 
 #[derive(Clone, Copy, Debug)]
 enum LiteralStep<'a> {
-    // This text, and what follows it.
+    // Literal text, and what follows it.
     Stands(&'a str, &'a str),
     Ends(LiteralEnd<'a>),
 }
 
-/// A stretch of literal text, escapes resolved.
+/// A stretch of literal text with its escapes resolved.
 #[derive(Debug, Drop)]
 pub(crate) struct Stretch<'a> {
     pub(crate) text: String,
     pub(crate) end: LiteralEnd<'a>,
-    /// How many bytes are left from there on, and none where the text ends within an escape.
+    /// How many bytes are left from there on, and 0 if the text ends within an escape.
     pub(crate) left: usize,
 }
 
-/// Reads literal text up to the next interpolation, the end of the template or what may not stand there.
+/// Reads literal text up to the next interpolation, the end of the template or text that is not allowed.
 pub(crate) fn read_literal<'a>(
     alloc: Global,
     text: &'a str,
@@ -102,7 +102,7 @@ fn step_at(text: &str, quoted: bool) -> LiteralStep<'_>
     }
 }
 
-// What a `$` begins, before a text.
+// Returns what a `$` before this text begins.
 #[tactic(auto, unfolding(crate::specs::Literal::begun))]
 fn dollar(rest: &str) -> LiteralStep<'_>
     ensures value { (quoted : Bool) → step_of result ≡ begun quoted 36 rest.now }
@@ -117,7 +117,7 @@ fn dollar(rest: &str) -> LiteralStep<'_>
     }
 }
 
-// What a `%` begins, before a text.
+// Returns what a `%` before this text begins.
 #[tactic(auto, unfolding(crate::specs::Literal::begun))]
 fn percent(rest: &str) -> LiteralStep<'_>
     ensures value { (quoted : Bool) → step_of result ≡ begun quoted 37 rest.now }
@@ -132,7 +132,7 @@ fn percent(rest: &str) -> LiteralStep<'_>
     }
 }
 
-// What a backslash within quotes begins, before a text.
+// Returns what a backslash within quotes before this text begins.
 #[tactic(auto, unfolding(crate::specs::Literal::escape))]
 fn escape(rest: &str) -> LiteralStep<'_>
     ensures value { step_of result ≡ escape (slice_index rest.now 0) (drop 1 rest.now) }

@@ -1,4 +1,4 @@
-//! Trees made of trees that were read.
+//! Construction of trees from parts that were read.
 
 ghost use Rattle.std.specs.Prelude.{◌≡◌, ◌<◌, ◌^◌, ◌+◌, max, suc, length, IfOk, MatchResult, string_bytes};
 ghost use Rattle.tf_expr_template.specs.Reads.{Makes, constant_tree};
@@ -22,7 +22,7 @@ pub(crate) struct ReadTerm<'a> {
 }
 
 impl<'a> ReadTerm<'a> {
-    /// A tree whose deepest part is so deep, and what follows it.
+    /// Wraps a tree whose deepest part has the given depth, and what follows it.
     fn above(depth: usize, term: Term, rest: &'a str) -> ReadTerm<'a>
         requires { depth < 64 }
         ensures term { view result.term ≡ view term }
@@ -37,7 +37,7 @@ impl<'a> ReadTerm<'a> {
     }
 }
 
-/// Expressions in a row, the depth of the deepest, and what follows them.
+/// A sequence of expressions, the depth of the deepest, and what follows them.
 #[derive(Debug, Drop)]
 pub(crate) struct Items<'a> {
     pub(crate) terms: Vec<Term>,
@@ -53,7 +53,7 @@ pub(crate) struct Read<'a> {
     pub(crate) rest: &'a str,
 }
 
-/// The number that a token is.
+/// Makes the number that a token spells.
 pub(crate) fn number(token: Token<'_>) -> Result<ReadTerm<'_>, TemplateFault>
     ensures { Makes (decimal token.entry.word.now < 2 ^ 63) (number (decimal token.entry.word.now)) token.entry.rest.now 1 result }
 {
@@ -63,7 +63,7 @@ pub(crate) fn number(token: Token<'_>) -> Result<ReadTerm<'_>, TemplateFault>
     Ok(ReadTerm::above(0, Term::Number(value), token.rest))
 }
 
-/// The value that a name which isn't free stands for.
+/// Makes the value that a keyword names.
 pub(crate) fn constant<'a>(keyword: Keyword, rest: &'a str) -> ReadTerm<'a>
     ensures term { view result.term ≡ constant_tree keyword }
     ensures depth { result.depth ≡ 1 }
@@ -77,7 +77,7 @@ pub(crate) fn constant<'a>(keyword: Keyword, rest: &'a str) -> ReadTerm<'a>
     ReadTerm::above(0, term, rest)
 }
 
-/// The reference that goes on with a name.
+/// Makes a reference of a first name and the name that comes next.
 pub(crate) fn reference<'a>(
     alloc: Global,
     first: &str,
@@ -96,7 +96,7 @@ pub(crate) fn reference<'a>(
     Ok(ReadTerm::above(0, term, token.rest))
 }
 
-/// A call of this function.
+/// Makes a call of a function.
 pub(crate) fn call<'a>(
     alloc: Global,
     function: &str,
@@ -109,7 +109,7 @@ pub(crate) fn call<'a>(
     Ok(ReadTerm::above(arguments.depth, term, arguments.rest))
 }
 
-/// The list of what was read.
+/// Makes a list of the expressions that were read.
 pub(crate) fn listed<'a>(parts: Items<'a>) -> ReadTerm<'a>
     requires { parts.depth < 64 }
     ensures term { view result.term ≡ listed (terms_view parts.entry.terms.items) }
@@ -119,7 +119,7 @@ pub(crate) fn listed<'a>(parts: Items<'a>) -> ReadTerm<'a>
     ReadTerm::above(parts.depth, Term::List(parts.terms), parts.rest)
 }
 
-/// A template between quotes.
+/// Makes a template between quotes.
 pub(crate) fn quoted<'a>(read: Read<'a>) -> ReadTerm<'a>
     requires { read.depth < 64 }
     ensures term { view result.term ≡ quoted (template_view read.entry.template).0 (template_view read.entry.template).1 }
@@ -129,7 +129,7 @@ pub(crate) fn quoted<'a>(read: Read<'a>) -> ReadTerm<'a>
     ReadTerm::above(read.depth, Term::Quoted(read.template), read.rest)
 }
 
-/// An expression in parentheses, of which the last is still to be read.
+/// Makes an expression in parentheses. The closing one is still to be read.
 pub(crate) fn group<'a>(alloc: Global, inner: ReadTerm<'a>) -> Result<ReadTerm<'a>, TemplateFault>
     requires { inner.depth < 64 }
     ensures value { Makes (token_kind inner.entry.rest.now ≡ CloseParen) (group (view inner.entry.term)) (after_token inner.entry.rest.now) (suc inner.entry.depth) result }
@@ -143,7 +143,7 @@ pub(crate) fn group<'a>(alloc: Global, inner: ReadTerm<'a>) -> Result<ReadTerm<'
     Ok(ReadTerm::above(inner.depth, term, token.rest))
 }
 
-/// An attribute of a value, by the name that comes next.
+/// Makes an attribute of a value, by the name that comes next.
 pub(crate) fn attribute<'a>(
     alloc: Global,
     value: ReadTerm<'_>,
@@ -164,7 +164,7 @@ pub(crate) fn attribute<'a>(
     Ok(ReadTerm::above(value.depth, term, token.rest))
 }
 
-/// An element of a value, by an index whose closing bracket is still to be read.
+/// Makes an element of a value, by an index whose closing bracket is still to be read.
 pub(crate) fn index<'a>(
     alloc: Global,
     value: ReadTerm<'_>,
@@ -184,7 +184,7 @@ pub(crate) fn index<'a>(
     Ok(ReadTerm::above(depth, term, token.rest))
 }
 
-/// An operator before its operand.
+/// Makes a prefix operator with its operand.
 pub(crate) fn unary<'a>(
     alloc: Global,
     operator: Prefix,
@@ -197,7 +197,7 @@ pub(crate) fn unary<'a>(
     Ok(ReadTerm::above(operand.depth, term, operand.rest))
 }
 
-/// An operator between its sides.
+/// Makes a binary operator with its two sides.
 pub(crate) fn binary<'a>(
     alloc: Global,
     operator: Operator,
@@ -217,7 +217,7 @@ pub(crate) fn binary<'a>(
     Ok(ReadTerm::above(depth, term, right.rest))
 }
 
-/// A choice by a condition.
+/// Makes a conditional.
 pub(crate) fn conditional<'a>(
     alloc: Global,
     condition: ReadTerm<'_>,

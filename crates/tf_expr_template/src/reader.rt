@@ -19,8 +19,8 @@ use crate::word::{Keyword, keyword_of};
 use std::alloc::Global;
 use tf_expr_syntax::{Operator, Prefix, Template};
 
-// An expression of operators that bind at least so tightly. Where no level is left, none is read: whatever
-// stands there, each is too deep.
+// Reads an expression of operators that bind at least as tightly as `least`. Fails with `TooDeep` if no level is
+// left, because any expression there is too deep.
 #[cycle(reader)]
 pub(crate) fn expression<'a>(
     alloc: Global,
@@ -45,7 +45,7 @@ pub(crate) fn expression<'a>(
     Ok(left)
 }
 
-// One operator more, behind its left side.
+// Reads one more operator after its left side.
 #[cycle(reader)]
 fn operator<'a>(
     alloc: Global,
@@ -86,7 +86,7 @@ fn operator<'a>(
     }
 }
 
-// What stands before, between and behind operators.
+// Reads an operand: what comes before, between and after operators.
 #[cycle(reader)]
 fn operand<'a>(alloc: Global, text: &'a str, budget: usize) -> Result<ReadTerm<'a>, TemplateFault>
     requires room { budget ≤ 64 }
@@ -123,7 +123,7 @@ fn operand<'a>(alloc: Global, text: &'a str, budget: usize) -> Result<ReadTerm<'
     }
 }
 
-// What begins with a name.
+// Reads an expression that begins with a name.
 #[cycle(reader)]
 fn name<'a>(alloc: Global, text: &'a str, budget: usize) -> Result<ReadTerm<'a>, TemplateFault>
     requires room { budget ≤ 64 }
@@ -149,7 +149,7 @@ fn name<'a>(alloc: Global, text: &'a str, budget: usize) -> Result<ReadTerm<'a>,
     }
 }
 
-// Expressions up to a closing bracket. On the last level there may be none of them.
+// Reads expressions up to a closing bracket. On the last level the list must be empty.
 #[cycle(reader)]
 fn list<'a>(
     alloc: Global,
@@ -195,7 +195,7 @@ fn list<'a>(
     }
 }
 
-/// A template up to its end, within quotes or not.
+/// Reads a template up to its end, within quotes or not.
 #[cycle(reader)]
 pub(crate) fn template<'a>(
     alloc: Global,

@@ -4,20 +4,20 @@ ghost use Rattle.std.specs.Str.{IsCharBoundary};
 ghost use Rattle.tf_config_address.specs.Name.{starts_name, continues_name};
 ghost use Rattle.tf_expr_template.specs.Bytes.{is_space, is_digit, is_plain};
 
-/// What is left of a text.
+/// The rest of a text.
 #[derive(Clone, Copy, Debug)]
 pub(crate) struct Remainder<'a> {
     pub(crate) text: &'a str,
 }
 
-/// The byte at a place, or 0 past the end.
+/// Returns the byte at an index, or 0 past the end.
 pub(crate) fn byte_at(text: &str, place: usize) -> u8
     ensures { result ≡ slice_index text.now place }
 {
     text.as_bytes().get(place).copied().unwrap_or(0)
 }
 
-/// What follows the byte at a place, which is ASCII.
+/// Returns the text after the byte at an index, which is ASCII.
 pub(crate) fn after(text: &str, place: usize) -> &str
     requires within { place < length text.now }
     requires ascii { slice_index text.now place < 128 }
@@ -26,7 +26,7 @@ pub(crate) fn after(text: &str, place: usize) -> &str
     &text[place + 1..]
 }
 
-/// The text up to a place and from there on.
+/// Splits the text at an index.
 pub(crate) fn cut(text: &str, place: usize) -> (&str, &str)
     requires { IsCharBoundary text.now place }
     ensures front { result.0.now ≡ take place text.now }
@@ -35,7 +35,7 @@ pub(crate) fn cut(text: &str, place: usize) -> (&str, &str)
     (&text[..place], &text[place..])
 }
 
-/// How many bytes of space a text begins with.
+/// Returns how many bytes of space a text begins with.
 pub(crate) fn space_len(text: &str) -> usize
     ensures { result ≡ prefix_len is_space text.now }
 {
@@ -45,7 +45,7 @@ pub(crate) fn space_len(text: &str) -> usize
         .count()
 }
 
-/// How many bytes from the front on may continue a name.
+/// Returns how many bytes from the front on may continue a name.
 pub(crate) fn name_len(text: &str) -> usize
     ensures { result ≡ prefix_len continues_name text.now }
 {
@@ -55,7 +55,7 @@ pub(crate) fn name_len(text: &str) -> usize
         .count()
 }
 
-/// How many digits a text begins with.
+/// Returns how many digits a text begins with.
 pub(crate) fn digit_len(text: &str) -> usize
     ensures { result ≡ prefix_len is_digit text.now }
 {
@@ -65,7 +65,7 @@ pub(crate) fn digit_len(text: &str) -> usize
         .count()
 }
 
-/// How many bytes from the front on stand for themselves in any literal, whatever follows.
+/// Returns how many bytes from the front on mean themselves in any literal, whatever follows.
 pub(crate) fn plain_len(text: &str) -> usize
     ensures { result ≡ prefix_len is_plain text.now }
 {

@@ -1,4 +1,4 @@
-//! Templates, read from texts.
+//! Reading of templates from texts.
 
 ghost use Rattle.std.specs.Prelude.{◌≡◌, ◌<◌, ◌≤◌, Some, IfOk, MatchResult};
 ghost use Rattle.tf_expr_template.specs.Refusal.{Refuses, fault_text};
@@ -12,13 +12,13 @@ use std::error::Error;
 use std::fmt;
 use tf_expr_syntax::Template;
 
-/// How deep a template may be.
+/// The greatest depth of a template.
 pub const MAX_DEPTH: usize = 64;
 
 /// Why no template is read.
 #[derive(Clone, Copy, Debug, PartialEq, Eq)]
 pub enum ReadFault {
-    /// The text is no template. No template begins with it up to and with the token at this byte.
+    /// The text is no template. No template begins with the text up to and with the token at this byte.
     At(usize),
     /// The template is deeper than `MAX_DEPTH`.
     TooDeep,
@@ -44,8 +44,8 @@ impl Error for ReadFault {}
 ///
 /// # Errors
 ///
-/// `At` only where the text spells no template, `TooDeep` only where each template that it spells is
-/// deeper, and `OutOfMemory`.
+/// Fails with `At` only if the text spells no template, with `TooDeep` only if each template that it spells is
+/// deeper, and with `OutOfMemory` if memory runs out.
 pub fn read_template(alloc: Global, text: &str) -> Result<Template, ReadFault>
     ensures sound { IfOk result (λ t. SpellsTemplate (template_view t) text.now
         × (template_depth (template_view t) ≤ 64)) }

@@ -9,7 +9,7 @@ ghost use Rattle.tf_expr_template.specs.declared.token.TokenKind.TheVariants.{Wr
 use crate::scan::{byte_at, cut, digit_len, is_digit, name_len, space_len, starts_name};
 use tf_expr_syntax::Operator;
 
-/// What a token is.
+/// The kind of a token.
 #[derive(Clone, Copy, Debug)]
 pub(crate) enum TokenKind {
     Name,
@@ -26,7 +26,7 @@ pub(crate) enum TokenKind {
     CloseBrace,
     Comma,
     Dot,
-    /// The end of the text, or what begins no token.
+    /// The end of the text, or a byte that begins no token.
     Wrong,
 }
 
@@ -41,7 +41,7 @@ impl TokenKind {
     ghost use Rattle.std.specs.Prelude.{◌≡◌, ◌≢◌, true, false};
     ghost use Rattle.tf_expr_template.specs.Reads.{begins, binding, closing, needs};
 
-    /// The level of the tree that the token makes of the one before it, and 0 where it makes none.
+    /// Returns the level of the tree that the token makes of the one before it, and 0 if it makes none.
     pub(crate) fn binding(self) -> usize
         ensures { result ≡ binding self }
     {
@@ -53,7 +53,7 @@ impl TokenKind {
         }
     }
 
-    /// The least level of the tree before such a token.
+    /// Returns the least level of the tree before such a token.
     pub(crate) fn needs(self) -> usize
         ensures { result ≡ needs self }
     {
@@ -63,7 +63,7 @@ impl TokenKind {
         }
     }
 
-    /// Whether an expression may begin with the token.
+    /// Returns whether an expression may begin with the token.
     pub(crate) fn begins(self) -> bool
         ensures { result ≡ begins self }
     {
@@ -79,7 +79,7 @@ impl TokenKind {
         }
     }
 
-    /// Whether the token closes a list in such brackets.
+    /// Returns whether the token closes a list in the given brackets.
     pub(crate) fn closes(self, bracket: Bracket) -> bool
         ensures yes { result ≡ true → self ≡ closing bracket }
         ensures no { result ≡ false → self ≢ closing bracket }
@@ -99,7 +99,7 @@ pub(crate) struct Token<'a> {
     pub(crate) rest: &'a str,
 }
 
-/// Reads the first token of a text. Space before it is passed over.
+/// Reads the first token of a text, and skips space before it.
 #[tactic(auto, unfolding(crate::specs::Token::token_kind, crate::specs::Token::token_word, crate::specs::Token::after_token, crate::specs::Token::trimmed))]
 pub(crate) fn next_token(text: &str) -> Token<'_>
     ensures kind { result.kind ≡ token_kind text.now }
@@ -170,7 +170,7 @@ fn sign(first: u8, second: u8) -> (TokenKind, usize)
     }
 }
 
-// The operator of two bytes where the second byte is there, or else the other sign.
+// Returns the operator of two bytes if the second byte matches, otherwise the other token.
 fn pair(whole: bool, operator: Operator, other: (TokenKind, usize)) -> (TokenKind, usize)
     ensures { result ≡ (if whole then (TokenKind.Binary operator, 2) else other) }
 {

@@ -1,11 +1,11 @@
-//! What digits and names stand for.
+//! The meaning of digits and names.
 
 ghost use Rattle.std.specs.List.{list_all};
 ghost use Rattle.std.specs.Prelude.{◌≡◌, ◌<◌, ◌≤◌, ◌^◌, IfSome, MatchOption, true};
 ghost use Rattle.tf_expr_template.specs.Bytes.{is_digit};
 ghost use Rattle.tf_expr_template.specs.Word.{decimal, decimal_from, keyword};
 
-/// What a name stands for.
+/// The meaning of a name.
 #[derive(Clone, Copy, Debug)]
 pub(crate) enum Keyword {
     True,
@@ -29,7 +29,7 @@ pub(crate) fn keyword_of(word: &str) -> Keyword
     }
 }
 
-/// The number that digits stand for, if it is at most `i64::MAX`.
+/// Returns the number that digits spell, if it is at most `i64::MAX`.
 pub(crate) fn number_of(digits: &str) -> Option<u64>
     ensures { MatchOption result (2 ^ 63 ≤ decimal digits.now)
         (λ n. (decimal digits.now ≡ n) × (n < 2 ^ 63)) }

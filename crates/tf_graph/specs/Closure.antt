@@ -10,11 +10,11 @@ pub record Table : Type 0 where
   pub nodes : ℕ
   pub rows : List (List Bool)
 
--- whether a reaches b; what is no node reaches nothing, and nothing reaches it
+-- whether a reaches b; a number that is no node reaches nothing, and nothing reaches it
 abbrev pub reaches : Table → ℕ → ℕ → Bool
 reaches t a b = has (slice_index_or t.rows a []) b
 
--- the table says of each two numbers whether a path leads from the one to the other
+-- the table says of each pair of numbers whether a path leads from the one to the other
 pub record IsClosure (g : Digraph) (t : Table) : Type 0 where
   pub nodes : t.nodes ≡ g.nodes
   pub found : (a b : ℕ) → Reaches g a b → reaches t a b ≡ true
@@ -32,14 +32,15 @@ ClosureIsLeast =
     → IsTransitiveOver g (reaches t)
     × ((holds : ℕ → ℕ → Bool) → IsTransitiveOver g holds → (a b : ℕ) → reaches t a b ≡ true → holds a b ≡ true)
 
--- what a reached node has an edge to is reached too, and what has an edge to a node that reaches another reaches it
+-- if a reached node has an edge to another node, that one is reached too; if a node has an edge to one that reaches
+-- another, it reaches that one too
 abbrev pub ReachedIsClosed : Type 0
 ReachedIsClosed =
     (g : Digraph) (t : Table) → IsClosure g t → (a b c : ℕ)
     → (reaches t a b ≡ true → HasEdge g b c → reaches t a c ≡ true)
     × (HasEdge g a b → reaches t b c ≡ true → reaches t a c ≡ true)
 
--- where no node reaches itself, what stands directly before a node has a rank
+-- if no node reaches itself, the nodes directly before a node give a rank
 abbrev pub AcyclicIsRanked : Type 0
 AcyclicIsRanked =
     (g : Digraph) (t : Table) → IsWithin g.nodes g.edges → IsClosure g t

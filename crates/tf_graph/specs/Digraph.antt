@@ -1,12 +1,11 @@
--- Finite directed graphs: how many nodes there are, and the list of the edges.
--- An edge `(a, b)` says that a stands before b.
+-- Finite directed graphs: the number of nodes, and the list of the edges. An edge `(a, b)` says that a is before b.
 use Rattle.std.specs.Prelude.{◌≤◌, ◌<◌, ◌==◌, ◌⊎◌, ℕ, List, filter, map, length, slice_index_or}
 
 pub record Digraph : Type 0 where
   pub nodes : ℕ
   pub edges : List (ℕ × ℕ)
 
--- the edge at a place of the list, and `(0, 0)` past the end
+-- the edge at an index of the list, and `(0, 0)` past the end
 abbrev pub edge_at : List (ℕ × ℕ) → ℕ → ℕ × ℕ
 edge_at edges i = slice_index_or edges i (0, 0)
 
@@ -28,18 +27,18 @@ abbrev pub HasOutside : ℕ → List (ℕ × ℕ) → Type 0
 HasOutside nodes edges =
     (i : ℕ) × (i < length edges) × ((nodes ≤ (edge_at edges i).0) ⊎ (nodes ≤ (edge_at edges i).1))
 
--- where the edges into a node come from, in the order of the list, as often as the edge stands there
+-- the sources of the edges into a node, in the order of the list, one for each edge
 abbrev pub sources_into : List (ℕ × ℕ) → ℕ → List ℕ
 sources_into edges n = map (λ e. e.0) (filter (λ e. e.1 == n) edges)
 
--- where the edges out of a node lead, in the order of the list, as often as the edge stands there
+-- the targets of the edges out of a node, in the order of the list, one for each edge
 abbrev pub targets_from : List (ℕ × ℕ) → ℕ → List ℕ
 targets_from edges n = map (λ e. e.1) (filter (λ e. e.0 == n) edges)
 
--- the nodes that stand directly before a node
+-- the nodes directly before a node
 abbrev pub predecessors_of : Digraph → ℕ → List ℕ
 predecessors_of g n = sources_into g.edges n
 
--- the nodes that stand directly after a node
+-- the nodes directly after a node
 abbrev pub successors_of : Digraph → ℕ → List ℕ
 successors_of g n = targets_from g.edges n

@@ -6,7 +6,7 @@ use Rattle.tf_graph.specs.Digraph.{IsWithin, sources_into, targets_from}
 abbrev pub row : {A : Type 0} → List (Vec ℕ A) → ℕ → List ℕ
 row lists n = slice_index_or (map (λ list. list.items) lists) n []
 
--- the lists that a graph keeps of each node's neighbours are those that its edges say
+-- the stored lists of each node's neighbours are those of its edges
 pub record IsBuilt {A : Type 0} (nodes : ℕ) (edges : List (ℕ × ℕ)) (before after : List (Vec ℕ A)) : Type 0 where
   pub few : nodes ≤ 8000
   pub within : IsWithin nodes edges

@@ -1,4 +1,4 @@
--- A search for what a node reaches, which takes over what is known of other nodes.
+-- A search for the nodes that a node reaches, which reuses the rows of known nodes.
 use Rattle.std.specs.Prelude.{◌≡◌, ◌<◌, ◌+◌, ◌⊎◌, ℕ, zero, suc, Bool, true, false, cond, List, [], length, slice_index_or, Contains}
 use Rattle.std.specs.List.{All}
 use Rattle.tf_graph.specs.Digraph.{Digraph}
@@ -9,22 +9,22 @@ use Rattle.tf_graph.specs.NodeSet.{has}
 abbrev pub row_of : List (List Bool) → ℕ → List Bool
 row_of rows node = slice_index_or rows node []
 
--- how many of the first nodes are no members
+-- how many of the first nodes are not members
 unfoldable pub missing : List Bool → ℕ → ℕ
 missing set zero = 0
 missing set (suc n) = cond (has set n) 0 1 + missing set n
 
--- each row has a place for each node
+-- each row has a bit for each node
 abbrev pub AreLong : ℕ → List (List Bool) → Type 0
 AreLong nodes rows = (k : ℕ) → k < length rows → length (row_of rows k) ≡ nodes
 
--- the rows of the known nodes are exactly what these reach
+-- the rows of the known nodes hold exactly what these reach
 pub record AreKnown (g : Digraph) (rows : List (List Bool)) (known : List Bool) : Type 0 where
   pub found : (a b : ℕ) → has known a ≡ true → Reaches g a b → has (row_of rows a) b ≡ true
   pub led : (a b : ℕ) → has known a ≡ true → has (row_of rows a) b ≡ true → Reaches g a b
 
--- what is known of a graph: a row for each node, and the known nodes, whose rows are exactly what these reach; the rows of the
--- others are empty
+-- what is known of a graph: a row for each node, and the known nodes, whose rows hold exactly what these reach. The
+-- rows of the others are empty.
 pub record IsTold (g : Digraph) (rows : List (List Bool)) (known : List Bool) : Type 0 where
   pub count : length rows ≡ g.nodes
   pub long : AreLong g.nodes rows
@@ -32,13 +32,13 @@ pub record IsTold (g : Digraph) (rows : List (List Bool)) (known : List Bool) : 
   pub rows_known : AreKnown g rows known
   pub blank : (a b : ℕ) → has known a ≡ false → has (row_of rows a) b ≡ false
 
--- the sets of a search have a place for each node
+-- the sets of a search have a bit for each node
 pub record IsWide (nodes : ℕ) (row settled : List Bool) : Type 0 where
   pub row_length : length row ≡ nodes
   pub settled_length : length settled ≡ nodes
 
--- a search from a node on its way: the row holds only what the node reaches; the settled ones are members with
--- all that they reach; whatever was reached is pending, or settled, or its successors are members
+-- a search from a node, in progress: the row holds only nodes that the start reaches. A settled node is a member,
+-- with all that it reaches. Each reached node is pending, or settled, or its successors are members.
 pub record IsSearch (g : Digraph) (start : ℕ) (row settled : List Bool) (pending : List ℕ) : Type 0 where
   pub led : (k : ℕ) → has row k ≡ true → Reaches g start k
   pub due : (k : ℕ) → Contains pending k → (k ≡ start) ⊎ (has row k ≡ true)

@@ -1,5 +1,5 @@
--- What is recursive over a relation without cycles, as the one solution of a rule.
--- `before n` is the list of what stands directly before n.
+-- Recursion over a relation without cycles, stated as the unique solution of a rule. `before n` is the list of the
+-- nodes directly before n.
 use Rattle.std.specs.Prelude.{◌≡◌, ◌<◌, ◌&&◌, ℕ, Bool, true, false, not, List, map}
 use Rattle.std.specs.List.{list_all, AllByRecursion}
 use Rattle.tf_graph.specs.Path.{Path, StandsBefore}
@@ -8,19 +8,19 @@ use Rattle.tf_graph.specs.Path.{Path, StandsBefore}
 abbrev pub seen_by : {R : Type 0} → (ℕ → R) → List ℕ → List (ℕ × R)
 seen_by results nodes = map (λ a. (a, results a)) nodes
 
--- each node below the count has the result that the rule makes of what it sees directly before it
+-- each node below the count has the result that the rule computes from what it sees directly before the node
 abbrev pub Solves : {R : Type 0} → ℕ → (ℕ → List ℕ) → (ℕ → List (ℕ × R) → R) → (ℕ → R) → Type 0
 Solves count before rule results = (n : ℕ) → n < count → results n ≡ rule n (seen_by results (before n))
 
--- some rank rises from each node to those that it stands before
+-- some rank is lower for each node directly before a node than for that node
 abbrev pub Ranked : (ℕ → List ℕ) → Type 0
 Ranked before = (rank : ℕ → ℕ) × ((n : ℕ) → AllByRecursion (λ a. rank a < rank n) (before n))
 
--- what stands before a node below the count is below it too
+-- the nodes directly before a node below the count are below it too
 abbrev pub StaysBelow : ℕ → (ℕ → List ℕ) → Type 0
 StaysBelow count before = (n : ℕ) → n < count → AllByRecursion (λ a. a < count) (before n)
 
--- a node is ready where it is not done, and all that stands directly before it is
+-- a node is ready if it is not done and all nodes directly before it are
 abbrev pub is_ready : (ℕ → List ℕ) → (ℕ → Bool) → ℕ → Bool
 is_ready before done n = not (done n) && list_all done (before n)
 
@@ -32,8 +32,8 @@ SolutionIsUnique R =
     → Solves count before rule results → Solves count before rule others
     → (n : ℕ) → n < count → results n ≡ others n
 
--- Where two rules make related results of related ones, two solutions of them are related at each node. That two
--- solutions of one rule are the same is the case of equality.
+-- If two rules make related results from related ones, their solutions are related at each node. With equality as the
+-- relation, this says that two solutions of one rule are the same.
 abbrev pub SolutionsAreRelated : (R S : Type 0) → (ℕ → R → S → Type 0) → Type 0
 SolutionsAreRelated R S Related =
     (count : ℕ) (before : ℕ → List ℕ) (rule : ℕ → List (ℕ × R) → R) (other_rule : ℕ → List (ℕ × S) → S) (results : ℕ → R) (others : ℕ → S)
@@ -49,7 +49,7 @@ SolutionExists R =
     (count : ℕ) (before : ℕ → List ℕ) (rule : ℕ → List (ℕ × R) → R)
     → Ranked before → (results : ℕ → R) × Solves count before rule results
 
--- where no node is ready, each is done
+-- if no node is ready, each is done
 abbrev pub AllAreDone : Type 0
 AllAreDone =
     (count : ℕ) (before : ℕ → List ℕ) (done : ℕ → Bool)
@@ -57,11 +57,11 @@ AllAreDone =
     → ((n : ℕ) → n < count → is_ready before done n ≡ false)
     → (n : ℕ) → n < count → done n ≡ true
 
--- where there is a rank, no path leads back to where it began
+-- if there is a rank, no path leads back to its start
 abbrev pub RankedHasNoCycle : Type 0
 RankedHasNoCycle = (before : ℕ → List ℕ) → Ranked before → (n : ℕ) → Path (StandsBefore before) n n → ⊥
 
--- a test on the nodes below a count is a strict order that holds of whatever stands directly before a node
+-- a test on the nodes below a count is a strict order that holds between each node and the nodes directly before it
 pub record IsOrderOf (count : ℕ) (before : ℕ → List ℕ) (is_below : ℕ → ℕ → Bool) : Type 0 where
   pub irreflexive : (a : ℕ) → a < count → is_below a a ≡ false
   pub transitive : (a b c : ℕ) → a < count → b < count → is_below a b ≡ true → is_below b c ≡ true → is_below a c ≡ true

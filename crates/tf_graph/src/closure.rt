@@ -31,15 +31,15 @@ impl Model for Closure {
 }
 
 impl Closure {
-    /// How many nodes the graph has.
+    /// Returns the number of nodes of the graph.
     pub fn nodes(&self) -> usize
         ensures { result ≡ self.now.nodes }
     {
         self.rows.len()
     }
 
-    /// Whether a path of one edge or more leads from the one node to the other. What is no node
-    /// reaches nothing, and nothing reaches it.
+    /// Returns whether a path of one edge or more leads from one node to the other. A number that is no node reaches
+    /// nothing, and nothing reaches it.
     pub fn reaches(&self, from: usize, to: usize) -> bool
         ensures { result ≡ reaches self.now from to }
     {
@@ -47,8 +47,8 @@ impl Closure {
         from < rows.len() && to < rows.len() && rows[from].contains(to)
     }
 
-    /// The first node at or after a place that a node reaches, if there is one. None for what is no
-    /// node.
+    /// Returns the first node at or after `from` that a node reaches. Returns `None` if there is no such node, or if
+    /// `node` is no node.
     pub fn first_reached(&self, node: usize, from: usize) -> Option<usize>
         ensures first { IsFirstFrom (reaches self.now node) from result }
         ensures nodes { IfSome result (λ k. (node < self.now.nodes) × (k < self.now.nodes)) }
@@ -62,8 +62,8 @@ impl Closure {
 }
 
 impl Graph {
-    /// Which node reaches which, by one edge or more: a search from each node, which takes over the
-    /// rows that are known already. The order of the searches matters for their cost alone.
+    /// Computes which node reaches which, by one edge or more. Searches from each node and reuses the rows that are
+    /// known already. The order of the searches affects only their cost. Fails only if memory runs out.
     pub fn closure(&self, alloc: Global) -> Result<Closure, AllocError>
         ensures { IfOk result (λ closure. IsClosure self.now closure) }
     {
@@ -81,7 +81,7 @@ impl Graph {
     }
 }
 
-/// An empty set for each node.
+/// Returns an empty set for each node.
 fn empty_rows(alloc: Global, nodes: usize) -> Result<Vec<NodeSet>, AllocError>
     ensures count { IfOk result (λ rows. length rows.items ≡ nodes) }
     ensures long { IfOk result (λ rows. AreLong nodes rows.items) }
@@ -94,7 +94,7 @@ fn empty_rows(alloc: Global, nodes: usize) -> Result<Vec<NodeSet>, AllocError>
     Ok(rows)
 }
 
-/// Makes the row of a node known. That of a node without successors is empty, as it stands.
+/// Computes the row of a node and marks it as known. The row of a node without successors stays empty.
 fn fill(
     alloc: Global,
     graph: &Graph,
@@ -130,18 +130,18 @@ struct KnownRows<'a> {
     known: &'a NodeSet,
 }
 
-/// What a search from a node has found.
+/// The progress of a search from a node.
 #[derive(Drop)]
 struct Search {
-    /// What the node reaches, as far as is known.
+    /// The nodes found so far that the start reaches.
     row: NodeSet,
-    /// Those among them whose own rows are taken over too.
+    /// Nodes of the row whose own reached nodes are in the row too.
     settled: NodeSet,
-    /// Those whose successors are still to be looked at.
+    /// Nodes whose successors are still to be visited.
     pending: Vec<usize>,
 }
 
-/// The nodes that a node reaches.
+/// Returns the nodes that a node reaches.
 fn reached_from(alloc: Global, told: &KnownRows<'_>, node: usize) -> Result<NodeSet, AllocError>
     requires node { node < told.now.graph.now.nodes }
     requires told { IsTold told.now.graph.now told.now.rows.now told.now.known.now }
@@ -166,7 +166,7 @@ fn reached_from(alloc: Global, told: &KnownRows<'_>, node: usize) -> Result<Node
     Ok(search.row)
 }
 
-/// Looks at the successors of a node.
+/// Visits the successors of a node.
 fn visit(told: &KnownRows<'_>, search: &mut Search, node: usize) -> Result<(), AllocError>
     requires node { node < told.now.graph.now.nodes }
     requires told { IsTold told.now.graph.now told.now.rows.now told.now.known.now }
@@ -184,7 +184,7 @@ fn visit(told: &KnownRows<'_>, search: &mut Search, node: usize) -> Result<(), A
     Ok(())
 }
 
-/// Notes that a node is reached.
+/// Adds a reached node to the search.
 fn reach(told: &KnownRows<'_>, search: &mut Search, node: usize) -> Result<(), AllocError>
     requires node { node < told.now.graph.now.nodes }
     requires told { IsTold told.now.graph.now told.now.rows.now told.now.known.now }
@@ -216,18 +216,18 @@ fn reach(told: &KnownRows<'_>, search: &mut Search, node: usize) -> Result<(), A
     Ok(())
 }
 
-/// A walk in depth: its path, and the nodes that it has left for good.
+/// A depth-first walk: its path, and the nodes that it has finished.
 #[derive(Drop)]
 struct Walk {
     seen: NodeSet,
-    /// For each node, how many of its successors were looked at.
+    /// For each node, how many of its successors were visited.
     places: Vec<usize>,
     path: Vec<usize>,
     order: Vec<usize>,
 }
 
-/// The nodes in the order in which a walk in depth leaves them, so that most come after those that
-/// they reach. What rests on it is how long a closure takes, and no more.
+/// Returns the nodes in the order in which a depth-first walk finishes them, so that most come after those that they
+/// reach. Only the cost of a closure depends on this order.
 fn finishing_order(alloc: Global, graph: &Graph) -> Result<Vec<usize>, AllocError>
     ensures { IfOk result (λ order. All (λ k. k < graph.now.nodes) order.items) }
 {
@@ -253,7 +253,7 @@ fn finishing_order(alloc: Global, graph: &Graph) -> Result<Vec<usize>, AllocErro
     Ok(walk.order)
 }
 
-/// Goes on to a node that was not seen before.
+/// Enters a node that was not seen before.
 fn enter(walk: &mut Walk, node: usize) -> Result<(), AllocError>
     requires { node < length walk.old.seen }
     ensures walk { (nodes : ℕ) → IsWalk nodes walk.old.seen walk.old.places.items walk.old.path.items walk.old.order.items
@@ -266,7 +266,7 @@ fn enter(walk: &mut Walk, node: usize) -> Result<(), AllocError>
     Ok(())
 }
 
-/// Goes on to the next successor of the last node of the path, or leaves this node.
+/// Moves on to the next successor of the path's last node, or finishes this node.
 fn step(graph: &Graph, walk: &mut Walk) -> Result<(), AllocError>
     requires { IsWalk graph.now.nodes walk.old.seen walk.old.places.items walk.old.path.items walk.old.order.items }
     ensures { IsWalk graph.now.nodes walk.new.seen walk.new.places.items walk.new.path.items walk.new.order.items }

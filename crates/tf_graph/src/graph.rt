@@ -1,4 +1,4 @@
-//! A finite directed graph, kept as the list of its edges and each node's neighbours.
+//! A finite directed graph, stored as the list of its edges and each node's neighbours.
 
 ghost use Rattle.std.specs.Prelude.{◌≡◌, ◌<◌, ◌≤◌, ◌↔◌, ◌==◌, ◌++◌, ◌∷◌, [], ℕ, length, All, Some, IfOk, OnOk, IsErrOf, MatchBool, if◌then◌else◌};
 ghost use Rattle.tf_graph.specs.Digraph.{Digraph, IsWithin, HasOutside, sources_into, targets_from, predecessors_of, successors_of};
@@ -11,7 +11,7 @@ use std::sync::Arc;
 /// The most nodes that a graph may have.
 pub const MAX_NODES: usize = 8000;
 
-/// Why no graph is made.
+/// Why no graph is built.
 #[derive(Clone, Copy, Debug, PartialEq, Eq, Hash)]
 pub enum GraphFault {
     /// There are more than `MAX_NODES` nodes.
@@ -22,15 +22,15 @@ pub enum GraphFault {
     OutOfMemory,
 }
 
-/// A finite directed graph: a number of nodes, and a list of edges. An edge `(a, b)` says that `a`
-/// stands before `b`. Self-loops are edges like any other, and an edge may stand more than once.
+/// A finite directed graph: a number of nodes, and a list of edges. An edge `(a, b)` says that `a` is before `b`.
+/// Self-loops are edges like any other, and the list may repeat an edge.
 #[derive(Drop)]
 pub struct Graph {
     lists: Arc<Lists>,
 }
 
-/// What a graph and its copies share: the number of nodes, the edges, and for each node where the
-/// edges into it come from, and where those out of it lead.
+/// What a graph and its copies share: the number of nodes, the edges, and for each node the sources of the edges into
+/// it and the targets of those out of it.
 #[derive(Drop)]
 struct Lists {
     nodes: usize,
@@ -52,8 +52,12 @@ impl Model for Graph {
 }
 
 impl Graph {
-    /// The graph of `nodes` nodes, named 0 up, with these edges. More than `MAX_NODES` nodes are
-    /// refused first, then an edge with an end that is no node.
+    /// Builds the graph of `nodes` nodes, numbered from 0, with the given edges.
+    ///
+    /// # Errors
+    ///
+    /// Fails with `TooMany` if there are more than `MAX_NODES` nodes. Otherwise fails with `OutOfRange` if an edge
+    /// has an end that is no node. Fails with `OutOfMemory` if memory runs out.
     pub fn new(alloc: Global, nodes: usize, edges: &[(usize, usize)]) -> Result<Graph, GraphFault>
         ensures graph { IfOk result (λ g. (g.nodes ≡ nodes) × (g.edges ≡ edges.now)) }
         ensures within { OnOk result (IsWithin nodes edges.now) }
@@ -73,8 +77,8 @@ impl Graph {
         Graph::of(alloc, nodes, edges).map_err(|_| GraphFault::OutOfMemory)
     }
 
-    /// The graph of `nodes` nodes, named 0 up, with these edges, whose ends are nodes. Refused only
-    /// where there is no memory.
+    /// Builds the graph of `nodes` nodes, numbered from 0, with edges whose ends are nodes. Fails only if memory runs
+    /// out.
     pub fn of(alloc: Global, nodes: usize, edges: Vec<(usize, usize)>) -> Result<Graph, AllocError>
         requires few { nodes ≤ MAX_NODES }
         requires within { IsWithin nodes edges.items }
@@ -91,9 +95,8 @@ impl Graph {
         Ok(Graph { lists })
     }
 
-    /// A graph equal to this one. The copy shares the lists with this graph, and so takes no memory
-    /// for them: the allocator isn't asked. Refused only where there are more copies than can be
-    /// counted.
+    /// Returns an equal graph. The copy shares the lists with this graph, so nothing is allocated. Fails only if
+    /// there are more copies than can be counted.
     pub fn copy(&self, _alloc: Global) -> Result<Graph, AllocError>
         ensures { IfOk result (λ copy. copy ≡ self.now) }
     {
@@ -102,7 +105,7 @@ impl Graph {
         })
     }
 
-    /// How many nodes there are.
+    /// Returns the number of nodes.
     pub fn nodes(&self) -> usize
         ensures count { result ≡ self.now.nodes }
         ensures few { result ≤ MAX_NODES }
@@ -111,14 +114,14 @@ impl Graph {
         self.lists.nodes
     }
 
-    /// How many edges there are, each counted as often as it stands.
+    /// Returns the number of edges, counted with repetition.
     pub fn edge_count(&self) -> usize
         ensures { result ≡ length self.now.edges }
     {
         self.lists.edges.len()
     }
 
-    /// The edges, as they were handed in.
+    /// Returns the edges in the order in which they were given.
     pub fn edges(&self) -> &[(usize, usize)]
         ensures edges { result.now ≡ self.now.edges }
         ensures within { IsWithin self.now.nodes self.now.edges }
@@ -126,8 +129,7 @@ impl Graph {
         self.lists.edges.as_slice()
     }
 
-    /// The nodes that stand directly before a node, as often as the edge stands, in the order of the
-    /// edges.
+    /// Returns the nodes directly before a node, one for each edge, in the order of the edges.
     pub fn predecessors(&self, node: usize) -> &[usize]
         requires { node < self.now.nodes }
         ensures nodes { result.now ≡ predecessors_of self.now node }
@@ -136,8 +138,7 @@ impl Graph {
         self.lists.before[node].as_slice()
     }
 
-    /// The nodes that stand directly after a node, as often as the edge stands, in the order of the
-    /// edges.
+    /// Returns the nodes directly after a node, one for each edge, in the order of the edges.
     pub fn successors(&self, node: usize) -> &[usize]
         requires { node < self.now.nodes }
         ensures nodes { result.now ≡ successors_of self.now node }
@@ -147,7 +148,7 @@ impl Graph {
     }
 }
 
-/// Whether both ends of each edge are nodes.
+/// Returns whether both ends of each edge are nodes.
 fn is_within(nodes: usize, edges: &[(usize, usize)]) -> bool
     ensures { MatchBool result (IsWithin nodes edges.now) (HasOutside nodes edges.now) }
 {
@@ -159,7 +160,7 @@ fn is_within(nodes: usize, edges: &[(usize, usize)]) -> bool
     true
 }
 
-/// For each node, where the edges into it come from; and where the edges out of it lead.
+/// Returns for each node the sources of the edges into it, and the targets of the edges out of it.
 fn neighbours(
     alloc: Global,
     nodes: usize,
@@ -179,7 +180,7 @@ fn neighbours(
     Ok((before, after))
 }
 
-/// Two empty lists for each node, with room for its neighbours on either side.
+/// Returns two empty lists for each node, with capacity for its predecessors and its successors.
 fn empty_neighbours(
     alloc: Global,
     nodes: usize,
@@ -200,7 +201,7 @@ fn empty_neighbours(
     Ok((empty_lists(alloc, &into)?, empty_lists(alloc, &out_of)?))
 }
 
-/// Counts one more at a place. A count stays at the most there is.
+/// Adds one to a count, unless it is the greatest number already.
 fn count_one(counts: &mut [usize], at: usize)
     requires { at < length counts.old }
     ensures { length counts.new ≡ length counts.old }
@@ -208,7 +209,7 @@ fn count_one(counts: &mut [usize], at: usize)
     counts[at] = counts[at].saturating_add(1);
 }
 
-/// An empty list for each count, with room for so many.
+/// Returns an empty list for each count, with that capacity.
 fn empty_lists(alloc: Global, counts: &[usize]) -> Result<Vec<Vec<usize>>, AllocError>
     ensures length { IfOk result (λ lists. length lists.items ≡ length counts.now) }
     ensures rows { IfOk result (λ lists. (n : ℕ) → row lists.items n ≡ []) }
@@ -221,7 +222,7 @@ fn empty_lists(alloc: Global, counts: &[usize]) -> Result<Vec<Vec<usize>>, Alloc
     Ok(lists)
 }
 
-/// Adds a node at the end of one list.
+/// Appends a node to one list.
 fn add(lists: &mut [Vec<usize>], at: usize, node: usize) -> Result<(), AllocError>
     requires { at < length lists.old }
     ensures { OnOk result ((n : ℕ) → row lists.new n

@@ -1,4 +1,4 @@
-//! Laws on what is recursive over a relation without cycles: each is the contract of a function that does nothing.
+//! Laws of recursion over a relation without cycles. Each is the contract of a function with an empty body.
 
 ghost use Rattle.tf_graph.specs.Solutions.{SolutionIsUnique, SolutionsAreRelated, SolutionExists, AllAreDone, RankedHasNoCycle, OrderedIsRanked};
 ghost use Rattle.tf_graph.specs.Closure.{ClosureIsLeast, ReachedIsClosed, AcyclicIsRanked};
@@ -16,8 +16,8 @@ pub trait Relation<R, S> {
     ghost Related: { ℕ → R → S → Type 0 };
 }
 
-/// Where two rules over a ranked relation make related results of related ones, their solutions are
-/// related at each node.
+/// If two rules over a ranked relation make related results from related ones, their solutions are related at each
+/// node.
 pub fn solutions_are_related<R, S, T: Relation<R, S>>()
     ensures { SolutionsAreRelated R S T.Related }
 {}
@@ -27,29 +27,27 @@ pub fn solution_exists<R>()
     ensures { SolutionExists R }
 {}
 
-/// Where nothing is ready, all is done: a walk that goes on while something is ready reaches every
-/// node.
+/// If no node is ready, each is done. So a walk that continues while a node is ready reaches every node.
 pub fn all_are_done()
     ensures { AllAreDone }
 {}
 
-/// No path over a ranked relation leads back to where it began.
+/// No path over a ranked relation leads back to its start.
 pub fn ranked_has_no_cycle()
     ensures { RankedHasNoCycle }
 {}
 
-/// A strict order that holds of whatever stands directly before a node gives a rank.
+/// A relation has a rank if a strict order holds between each node and the nodes directly before it.
 pub fn ordered_is_ranked()
     ensures { OrderedIsRanked }
 {}
 
-/// A journal in order stays so by an entry that is new and comes after all that stands directly
-/// before it.
+/// A journal in order stays in order if an entry is added that is new and comes after all nodes directly before it.
 pub fn order_grows()
     ensures { OrderGrows }
 {}
 
-/// In a journal in order, what stands before an entry by any path is entered before it.
+/// In a journal in order, a node from which a path leads to an entry is entered before it.
 pub fn order_follows_paths()
     ensures { OrderFollowsPaths }
 {}
@@ -59,28 +57,28 @@ pub fn closure_is_least()
     ensures { ClosureIsLeast }
 {}
 
-/// What a reached node has an edge to is reached too, and so is what has an edge to one that reaches,
-/// by the other end.
+/// If a reached node has an edge to another node, that one is reached too. If a node has an edge to one that reaches
+/// another, it reaches that one too.
 pub fn reached_is_closed()
     ensures { ReachedIsClosed }
 {}
 
-/// Where no node reaches itself by a closure, what stands directly before a node has a rank.
+/// If no node reaches itself by a closure, the nodes directly before a node give a rank.
 pub fn acyclic_is_ranked()
     ensures { AcyclicIsRanked }
 {}
 
-/// No node is left of a graph exactly where none reaches itself.
+/// No node of a graph is left exactly if no node reaches itself.
 pub fn strip_is_empty()
     ensures { StripIsEmpty }
 {}
 
-/// Where no node reaches itself, the order of removal holds each node.
+/// If no node reaches itself, the order of removal holds each node.
 pub fn whole_order_holds_all()
     ensures { WholeOrderHoldsAll }
 {}
 
-/// A node is left exactly where one that reaches itself reaches it, or is it.
+/// A node is left exactly if a node that reaches itself reaches it, or is it.
 pub fn left_is_behind_cycle()
     ensures { LeftIsBehindCycle }
 {}

@@ -1,4 +1,4 @@
-//! Finite directed graphs, and what is recursive over one without cycles.
+//! Finite directed graphs, and recursion over a graph without cycles.
 #![tactic(auto)]
 
 mod closure;

@@ -1,4 +1,4 @@
-//! A set of nodes, one bit for each.
+//! A set of nodes, one bit for each node.
 
 ghost use Rattle.std.specs.Prelude.{◌≡◌, ◌≤◌, ◌<◌, ◌^◌, ◌==◌, ◌||◌, ℕ, false, length, slice_index, IfOk, IfSome, bit_or};
 ghost use Rattle.tf_graph.specs.NodeSet.{has, bit_of, IsFirstFrom};
@@ -25,7 +25,7 @@ impl Model for NodeSet {
 }
 
 impl NodeSet {
-    /// The empty set of nodes below `count`.
+    /// Returns the empty set of nodes below `count`.
     pub fn new(alloc: Global, count: usize) -> Result<NodeSet, AllocError>
         ensures length { IfOk result (λ set. length set ≡ count) }
         ensures members { IfOk result (λ set. (k : ℕ) → has set k ≡ false) }
@@ -34,7 +34,7 @@ impl NodeSet {
         Ok(NodeSet { count, words })
     }
 
-    /// Whether a node is a member.
+    /// Returns whether a node is a member.
     pub fn contains(&self, node: usize) -> bool
         requires { node < length self.now }
         ensures { result ≡ has self.now node }
@@ -62,7 +62,7 @@ impl NodeSet {
         add_bits(self.words.as_mut_slice(), other.words.as_slice());
     }
 
-    /// The first member at or after a place, if there is one.
+    /// Returns the first member at or after `from`, if there is one.
     pub fn first_from(&self, from: usize) -> Option<usize>
         ensures first { IsFirstFrom (has self.now) from result }
         ensures below { IfSome result (λ k. k < length self.now) }
@@ -75,7 +75,7 @@ impl NodeSet {
     }
 }
 
-/// The first bit at or after a place that is set.
+/// Returns the first bit at or after `from` that is set.
 fn next_bit(words: &[u64], from: usize) -> Option<usize>
     requires { length words.now ≤ 2 ^ 58 }
     ensures { IsFirstFrom (bit_of words.now) from result }
@@ -97,7 +97,7 @@ fn next_bit(words: &[u64], from: usize) -> Option<usize>
     None
 }
 
-/// Sets each bit that another list of as many words has.
+/// Sets each bit that is set in the other list, which has as many words.
 fn add_bits(words: &mut [u64], others: &[u64])
     requires { length words.old ≡ length others.now }
     ensures { (i : ℕ) → slice_index words.new i ≡ bit_or (slice_index words.old i) (slice_index others.now i) }

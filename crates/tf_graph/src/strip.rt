@@ -1,4 +1,4 @@
-//! What is left of a graph when nodes without remaining predecessors are removed again and again.
+//! The nodes that are left of a graph after repeatedly removing nodes without remaining predecessors.
 
 ghost use Rattle.std.specs.Prelude.{◌≡◌, ◌≤◌, ◌<◌, ◌+◌, ◌-◌, ◌==◌, ◌++◌, ◌∷◌, [], ◌⊎◌, ℕ, Bool, true, List, length, replicate, IfOk, OnOk, vec_len, slice_index, slice_set, if◌then◌else◌};
 ghost use Rattle.tf_graph.specs.Digraph.{predecessors_of, successors_of};
@@ -9,8 +9,8 @@ use crate::graph::Graph;
 use std::alloc::{AllocError, Global};
 
 impl Graph {
-    /// Whether each node is left when nodes without remaining predecessors are removed again and
-    /// again: those are left that no order reaches.
+    /// Returns for each node whether it is left after repeatedly removing nodes without remaining predecessors. The
+    /// nodes that are left are those that no order reaches.
     pub fn strip(&self, alloc: Global) -> Result<Vec<bool>, AllocError>
         ensures { IfOk result (λ left. IsStripped self.now left.items) }
     {
@@ -18,8 +18,8 @@ impl Graph {
         Ok(left)
     }
 
-    /// The nodes that such a removal takes, each once and after all that stands directly before it.
-    /// Where no node reaches itself these are all nodes.
+    /// Returns the nodes that such a removal takes, each once and after all nodes directly before it. If no node
+    /// reaches itself, these are all nodes.
     pub fn order(&self, alloc: Global) -> Result<Vec<usize>, AllocError>
         ensures { IfOk result (λ order. IsWholeOrder self.now order.items) }
     {
@@ -28,7 +28,7 @@ impl Graph {
     }
 }
 
-/// Which nodes are left, and those that are removed, in order.
+/// Returns which nodes are left, and the removed nodes in order.
 fn take_all(alloc: Global, graph: &Graph) -> Result<(Vec<bool>, Vec<usize>), AllocError>
     ensures left { IfOk result (λ both. IsStripped graph.now both.0.items) }
     ensures order { IfOk result (λ both. IsTaken graph.now both.0.items both.1.items) }
@@ -47,14 +47,14 @@ fn take_all(alloc: Global, graph: &Graph) -> Result<(Vec<bool>, Vec<usize>), All
     Ok((left, order))
 }
 
-/// What remains before each node, and the nodes before which nothing remains.
+/// How many predecessors of each node remain, and the nodes without a remaining predecessor.
 #[derive(Drop)]
 struct Removal {
     remaining: Vec<usize>,
     free: Vec<usize>,
 }
 
-/// Before any node is removed.
+/// Returns the removal before any node is removed.
 fn start(alloc: Global, graph: &Graph) -> Result<Removal, AllocError>
     ensures { IfOk result (λ r. IsRemoval graph.now (replicate graph.now.nodes true) r.remaining.items r.free.items []) }
 {
@@ -68,7 +68,7 @@ fn start(alloc: Global, graph: &Graph) -> Result<Removal, AllocError>
     Ok(removal)
 }
 
-/// Notes how many nodes stand directly before the next one.
+/// Records how many nodes are directly before the next node.
 fn note(removal: &mut Removal, node: usize, count: usize) -> Result<(), AllocError>
     ensures remaining { OnOk result (removal.new.remaining.items ≡ removal.old.remaining.items ++ count ∷ []) }
     ensures free { OnOk result (removal.new.free.items
@@ -98,7 +98,7 @@ fn release(graph: &Graph, removal: &mut Removal, node: usize) -> Result<(), Allo
     Ok(())
 }
 
-/// Counts one node off before another.
+/// Counts one predecessor of a node off.
 fn count_off(removal: &mut Removal, node: usize) -> Result<(), AllocError>
     requires inside { node < length removal.old.remaining.items }
     requires some { 0 < slice_index removal.old.remaining.items node }

@@ -9,23 +9,23 @@ use Rattle.tf_config_address.specs.ObjectId.{InstanceKeyView, instance_key_of}
 use Rattle.tf_state_data.specs.declared.object.Object.{Object}
 use Rattle.tf_value_data.specs.Tree.{Tree, tree_of}
 
--- What an action does to which object of an instance.
+-- A step: what an action does to which object of an instance.
 pub data StepView : Type 0 where
-  -- makes an object where none is
+  -- creates an object; there is no current one
   create : Tree → StepView
-  -- changes the current object, which was so, to another, in the attributes of these names
+  -- changes the current object, the first, to the second, in the attributes of these names
   update : Tree → Tree → List (List ℕ) → StepView
-  -- makes the object that takes the place of one, for which changes of the attributes of these names are the cause
+  -- creates the object that replaces another one because of changes of the attributes of these names
   replacement : Tree → List (List ℕ) → StepView
-  -- destroys the current object, which was so, whose place another takes
+  -- destroys the current object, which is this one and which another one replaces
   replaced : Tree → StepView
-  -- destroys the current object, which was so, and nothing takes its place
+  -- destroys the current object, which is this one, without replacement
   destroyed : Tree → StepView
-  -- destroys the deposed object of a key, which was so
+  -- destroys the deposed object of a key, which is this one
   deposed_destroyed : List ℕ → Tree → StepView
 
--- An action: the number of its resource, and that of its instance among those of the resource; the address of the instance;
--- what it does, and the version of the schema that objects follow.
+-- An action: the numbers of its resource and of its instance among those of the resource, the address of the instance,
+-- its step, and the version of the schema that its objects follow.
 pub record ActionView : Type 0 where
   pub resource : ℕ
   pub instance : ℕ
@@ -34,7 +34,7 @@ pub record ActionView : Type 0 where
   pub step : StepView
   pub version : ℕ
 
--- the attributes of an object that is there
+-- the attributes of a prior object
 abbrev pub prior_of : Object → Tree
 prior_of o = tree_of o.value
 

@@ -4,7 +4,7 @@ use Rattle.json.specs.Print.{quoted}
 use Rattle.tf_config_address.specs.ResourceAddr.{ResourceAddrView, addr_text}
 use Rattle.tf_config_address.specs.ObjectId.{InstanceKeyView, single, number, name}
 
--- `TYPE.NAME`; with a number `TYPE.NAME[0]`; with a name `TYPE.NAME["key"]`, the key as a compact JSON text
+-- `TYPE.NAME`, with a number `TYPE.NAME[0]`, with a name `TYPE.NAME["key"]`, the key as a compact JSON text
 abbrev pub address_text : ResourceAddrView → InstanceKeyView → List ℕ
 address_text addr single = addr_text addr
 address_text addr (number n) = addr_text addr ++ 91 ∷ (decimal n ++ 93 ∷ [])

@@ -1,4 +1,4 @@
--- What each plan that is made of a configuration and a prior state keeps to.
+-- The properties of each plan that is made from a configuration and a prior state.
 use Rattle.std.specs.Prelude.{◌≡◌, ◌+◌, ◌<◌, ◌^◌, ℕ, Bool, true, false, List, Option, None, Some, map, slice_get, ⊤}
 use Rattle.std.specs.List.{AllByRecursion}
 use Rattle.tf_plan_data.specs.Action.{ActionView, StepView, create, update, replacement, replaced, destroyed, deposed_destroyed, action_of}
@@ -20,14 +20,14 @@ is_apply (destroyed prior) = false
 is_apply (deposed_destroyed key prior) = false
 is_apply _ = true
 
--- what a provider is to do for a step
+-- the operation that a provider is asked for in a step
 abbrev pub op_of : StepView → Op
 op_of (create asked) = Create
 op_of (update prior asked names) = Update
 op_of (replacement asked names) = Create
 op_of _ = Destroy
 
--- the key of the deposed object that a step destroys; none where it is about the current object
+-- the key of the deposed object that a step destroys, or `None` if the step is about the current object
 abbrev pub deposed_key : StepView → Option (List ℕ)
 deposed_key (deposed_destroyed key prior) = Some key
 deposed_key _ = None
@@ -36,13 +36,14 @@ deposed_key _ = None
 abbrev pub IsPlaced : List ResourceRefView → ActionView → Type 0
 IsPlaced all a = place_in all a.addr ≡ Some a.resource
 
--- the number of an instance is below the most instances that a configuration may have
+-- the number of an instance is less than the most instances that a configuration may have
 abbrev pub IsNumbered : InstanceKeyView → Type 0
 IsNumbered single = ⊤
 IsNumbered (number n) = n < 2000
 IsNumbered (name s) = ⊤
 
--- What a create or an update is of: a block that stands at the place of its resource, and an instance that it may have.
+-- The subject of a create or an update: the block at the place of its resource, and an instance that the block may
+-- have.
 pub record IsOfBlock (names : List NameView) (a : ActionView) : Type 0 where
   pub block : BlockView
   pub stands : meant_at names a.resource ≡ Some (a_block block)
@@ -52,8 +53,8 @@ pub record IsOfBlock (names : List NameView) (a : ActionView) : Type 0 where
 abbrev pub IsDeclared : List NameView → ActionView → Type 0
 IsDeclared names a = is_apply a.step ≡ true → IsOfBlock names a
 
--- What an action is about: an instance, whether an object is made or changed or else destroyed, and of a destroyed deposed
--- object its key.
+-- The subject of an action: an instance, whether an object is created or updated or else destroyed, and the key of a
+-- deposed object that is destroyed.
 pub record AboutView : Type 0 where
   pub addr : ResourceAddrView
   pub key : InstanceKeyView
@@ -63,12 +64,12 @@ pub record AboutView : Type 0 where
 abbrev pub about : ActionView → AboutView
 about a = record { addr = a.addr; key = a.key; applies = is_apply a.step; deposed = deposed_key a.step }
 
--- no two actions are about the same
+-- no two actions have the same subject
 abbrev pub AreApart : List ActionView → Type 0
 AreApart actions = (i j : ℕ) (a b : ActionView) → slice_get actions i ≡ Some a → slice_get actions j ≡ Some b → about a ≡ about b → i ≡ j
 
--- The parts of a plan fit together, as those of each plan that is made of a configuration and a state do. The serial after
--- the prior one is a serial too.
+-- The parts of a plan fit together, as those of each plan that is made from a configuration and a state do. The number
+-- after the prior serial is a serial too.
 pub record FitsTogether (p : Plan) : Type 0 where
   pub dependence : IsDependence (names_of (config_of p.config)) p.dependence
   pub acyclic : IsAcyclic p.dependence

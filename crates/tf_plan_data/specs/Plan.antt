@@ -11,9 +11,9 @@ use Rattle.tf_state_data.specs.State.{StateView, state_of}
 use Rattle.tf_value_data.specs.Tree.{Entries, entries_view}
 use Rattle.tf_plan_data.specs.declared.plan.Plan.{Plan}
 
--- A plan: the state that it starts from; the configuration, the values of its variables, which of its names needs which
--- and how the instances of each resource stand together; of each resource of configuration and state together, by its
--- number, whether it is late; the actions in address order, and their order.
+-- A plan: the state that it starts from, the configuration, the values of its variables, which of its names needs
+-- which, the instance keys of each resource, which resources of configuration and state together are late, by their
+-- numbers, the actions in address order, and their order.
 pub record PlanView : Type 0 where
   pub prior : StateView
   pub config : ConfigView
@@ -37,6 +37,6 @@ plan_of p =
       order = p.order;
     }
 
--- the names of a plan's configuration, by whose places its resources are numbered
+-- the names of a plan's configuration, whose places number its resources
 abbrev pub plan_names : PlanView → List NameView
 plan_names plan = names_of plan.config

@@ -1,4 +1,4 @@
--- What contracts of the crates above cite of this crate and of those below, from one place.
+-- What contracts of higher-level crates cite of this crate and of lower-level ones, collected in one place.
 pub use Rattle.tf_config_data.specs.Words.{config_of, instance_key_of, addr_of, meant_at, names_of, unknown}
 pub use Rattle.tf_expand_keys.specs.Words.{AreResolvedNames, entries_view, IsAcyclic, IsDependence, names_in, seen_by, shapes_of, resolved_names_of, ResolvedView, tree_of}
 pub use Rattle.json.specs.Print.{quoted}

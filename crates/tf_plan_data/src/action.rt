@@ -18,14 +18,14 @@ pub struct Action {
     pub addr: ResourceAddr,
     /// The instance.
     pub key: InstanceKey,
-    /// What it does.
+    /// Its step.
     pub step: Step,
     /// The version of the schema that its objects follow.
     pub version: u32,
 }
 
 impl Action {
-    /// The action as the order of actions sees it.
+    /// Returns the action as the order of actions sees it.
     pub fn ordered(&self) -> tf_plan_order::OrderedAction
         ensures { result ≡ ordered (action_of self.now) }
     {

@@ -10,11 +10,12 @@ use serde_json::Value as Json;
 use std::alloc::{AllocError, Global};
 use tf_config_address::{InstanceKey, ResourceAddr};
 
-/// The address of an instance: `TYPE.NAME`, `TYPE.NAME[0]` or `TYPE.NAME["key"]`, the key as a compact JSON text.
+/// Returns the address of an instance: `TYPE.NAME`, `TYPE.NAME[0]` or `TYPE.NAME["key"]`, the key as a compact JSON
+/// text.
 ///
 /// # Errors
 ///
-/// Only where memory runs out.
+/// Fails only if memory runs out.
 pub fn address_text(
     alloc: Global,
     addr: &ResourceAddr,
@@ -43,18 +44,18 @@ fn named(alloc: Global, addr: &ResourceAddr, name: &str) -> Result<String, Alloc
     in_brackets(alloc, addr, quoted.as_str())
 }
 
-/// The address `TYPE.NAME` of a resource.
+/// Returns the address `TYPE.NAME` of a resource.
 ///
 /// # Errors
 ///
-/// Only where memory runs out.
+/// Fails only if memory runs out.
 pub fn addr_text(alloc: Global, addr: &ResourceAddr) -> Result<String, AllocError>
     ensures { IfOk result (λ text. string_bytes text ≡ addr_text (addr_of addr.now)) }
 {
     with_room(alloc, addr, 0)
 }
 
-/// A resource's address, and behind it a text in brackets.
+/// Returns a resource's address, followed by a text in brackets.
 fn in_brackets(alloc: Global, addr: &ResourceAddr, text: &str) -> Result<String, AllocError>
     ensures { IfOk result (λ whole. string_bytes whole ≡ addr_text (addr_of addr.now) ++ 91 ∷ (text.now ++ 93 ∷ [])) }
 {
@@ -65,7 +66,7 @@ fn in_brackets(alloc: Global, addr: &ResourceAddr, text: &str) -> Result<String,
     Ok(whole)
 }
 
-/// A resource's address, in a text with room for so many bytes behind it: so the whole takes memory once.
+/// Returns a resource's address in a text with capacity for `more` further bytes, so that the whole is allocated once.
 fn with_room(alloc: Global, addr: &ResourceAddr, more: usize) -> Result<String, AllocError>
     ensures { IfOk result (λ text. string_bytes text ≡ addr_text (addr_of addr.now)) }
 {
@@ -79,7 +80,7 @@ fn with_room(alloc: Global, addr: &ResourceAddr, more: usize) -> Result<String, 
     Ok(text)
 }
 
-/// A text in quotes, with JSON's escapes.
+/// Returns a text in quotes, with JSON's escapes.
 fn in_quotes(alloc: Global, text: &str) -> Result<String, AllocError>
     ensures { IfOk result (λ quoted_text. string_bytes quoted_text ≡ quoted text.now) }
 {

@@ -1,4 +1,4 @@
-//! A plan: what is to be done, in which order, and what it is planned from.
+//! A plan: its actions, their order, and what it is planned from.
 
 ghost use Rattle.std.specs.Prelude.{◌≡◌, vec_len};
 
@@ -11,8 +11,8 @@ use tf_plan_order::Order;
 use tf_state_data::State;
 use tf_value_data::Value;
 
-/// A plan. An action is named by its place in the list of actions, which are in address order. What it is planned from
-/// is kept, as requests and outputs are worked out from it when the plan is carried out.
+/// A plan. An action is named by its place in the list of actions, which are in address order. The plan keeps what it
+/// is planned from, because requests and outputs are evaluated from it when the plan is carried out.
 #[derive(Drop)]
 pub struct Plan {
     /// The state that the plan starts from.
@@ -23,10 +23,10 @@ pub struct Plan {
     pub variables: BTreeMap<String, Value>,
     /// Which name of the configuration needs which.
     pub dependence: Dependence,
-    /// How the instances of each resource stand together, by the place of its name.
+    /// The instance keys of each resource, by the place of its name.
     pub shapes: Vec<InstanceKeys>,
-    /// For each resource of configuration and prior state together, by its number (`tf_plan_order`), whether it is late:
-    /// what replaces an object of it is created before that object is destroyed.
+    /// For each resource of configuration and prior state together, by its number (`tf_plan_order`), whether it is
+    /// late: the replacement of an object of it is created before that object is destroyed.
     pub late: Vec<bool>,
     /// The actions, in address order.
     pub actions: Vec<Action>,

@@ -1,10 +1,13 @@
 //! A plan whose parts are known to fit together.
 
+ghost use Rattle.std.specs.Prelude.{◌≡◌};
+
 use crate::plan::Plan;
 use std::marker::Model;
+use tf_graph::Graph;
 
-/// A plan as the planner makes it: its parts fit together, which is this type's invariant (`FitsTogether`). So whoever carries a
-/// plan out needn't ask for that. Contracts see the plan itself.
+/// A plan as the planner makes it. Its parts fit together, which is this type's invariant (`FitsTogether`), so a function that
+/// carries a plan out doesn't require it. Contracts see the plan itself.
 #[derive(Drop)]
 pub struct Planned {
     /// The plan.
@@ -23,4 +26,13 @@ impl Model for Planned {
     ghost view = { λ p. p.plan };
 
     ghost invariant = { λ p. FitsTogether p.plan };
+}
+
+impl Planned {
+    /// Returns the graph of the actions. An edge `(a, b)` says that action a is before action b: each such pair is one edge.
+    pub fn graph(&self) -> &Graph
+        ensures { result.now ≡ self.now.order }
+    {
+        self.plan.order.graph()
+    }
 }

@@ -1,4 +1,4 @@
-//! What an action does.
+//! The steps of actions.
 
 ghost use Rattle.std.specs.Prelude.{◌≡◌};
 ghost use Rattle.tf_plan_data.specs.Action.{step_of};
@@ -10,27 +10,27 @@ use tf_provider_protocol::Op;
 use tf_state_data::Object;
 use tf_value_data::Value;
 
-/// What an action does to an object of an instance. What is asked for has each attribute of the type's schema, unknown where
-/// the provider decides; what is there is as the state has it.
+/// What an action does to an object of an instance. A requested object has each attribute of the type's schema, unknown
+/// if the provider decides it. A prior object is as the state has it.
 #[derive(Debug, Drop)]
 pub enum Step {
-    /// Makes this object where none is.
+    /// Creates this object. There is no current one.
     Create(Value),
     /// Changes the current object, the first, to the second, in the attributes of these names, in byte order.
     Update(Object, Value, Vec<String>),
-    /// Makes this object, which takes the place of the one that is destroyed (`DestroyReplaced`). The names, in byte order, are
-    /// those of the attributes whose changes replace the object; there are none where that one is tainted.
+    /// Creates this object, which replaces the one that is destroyed (`DestroyReplaced`). The names, in byte order, are
+    /// those of the attributes whose changes replace the object. The list is empty if that one is tainted.
     CreateReplacement(Value, Vec<String>),
-    /// Destroys the current object, whose place another takes (`CreateReplacement`).
+    /// Destroys the current object, which another one replaces (`CreateReplacement`).
     DestroyReplaced(Object),
-    /// Destroys the current object, and nothing takes its place.
+    /// Destroys the current object without replacement.
     Destroy(Object),
     /// Destroys the deposed object of this key.
     DestroyDeposed(String, Object),
 }
 
 impl Step {
-    /// What it does, as far as the order of actions depends on it.
+    /// Returns what it does, as far as the order of actions depends on it.
     pub fn kind(&self) -> ActionKind
         ensures { result ≡ kind_of (step_of self.now) }
     {
@@ -42,7 +42,7 @@ impl Step {
         }
     }
 
-    /// What a provider is asked to do for it.
+    /// Returns the operation that a provider is asked for.
     pub fn op(&self) -> Op
         ensures { result ≡ op_of (step_of self.now) }
     {
@@ -53,7 +53,7 @@ impl Step {
         }
     }
 
-    /// Whether it makes an object or changes one.
+    /// Checks whether it creates or updates an object.
     pub fn is_apply(&self) -> bool
         ensures { result ≡ is_apply (step_of self.now) }
     {
@@ -63,7 +63,7 @@ impl Step {
         )
     }
 
-    /// Whether it is half of a replace.
+    /// Checks whether it is half of a replace.
     pub fn is_half(&self) -> bool
         ensures { result ≡ is_half (step_of self.now) }
     {

@@ -1,4 +1,4 @@
--- Decisions and refusals without where they lie in memory.
+-- Decisions and refusals as plain data.
 use Rattle.std.specs.Prelude.{ℕ, List, map, String, string_bytes, Result, Ok, Err}
 use Rattle.std.specs.declared.alloc.Global.{Global}
 use Rattle.tf_plan_object.specs.Instance.{instance_fault_of}
@@ -32,7 +32,7 @@ decision_fault_of (refused.Unfit fault) = unfit (prior_fault_of fault)
 decision_fault_of (refused.Faulty why) = faulty (instance_fault_of why)
 decision_fault_of refused.Prevented = prevented
 
--- a decision, or the refusal in its place
+-- a decision, or its refusal
 abbrev pub answer_of : Result Decision DecisionFault → Result DecisionView DecisionFaultView
 answer_of (Ok d) = Ok (decision_of d)
 answer_of (Err why) = Err (decision_fault_of why)

@@ -1,4 +1,4 @@
--- What is decided about all members of resources: what is done, and what is refused, each in order.
+-- The decisions about all members of resources: actions and refusals, each in order.
 use Rattle.std.specs.Prelude.{ℕ, ◌+◌, List, [], ◌∷◌, ◌++◌, map, Option, Ok, Err}
 use Rattle.std.specs.Option.{option_map_or}
 use Rattle.tf_plan_data.specs.Action.{ActionView, StepView, action_of}
@@ -19,13 +19,13 @@ use Rattle.tf_provider_protocol.specs.Meaning.{Meaning, schema_in}
 use Rattle.tf_provider_protocol.specs.Schema.{SchemaView}
 use Rattle.tf_state_data.specs.Resource.{ResourceView}
 
--- a refused instance, and why it is
+-- a refused instance, and why it is refused
 pub record RefusedInstanceView : Type 0 where
   pub addr : ResourceAddrView
   pub key : InstanceKeyView
   pub why : DecisionFaultView
 
--- what is done, and what is refused
+-- actions and refusals
 pub record DecidedView : Type 0 where
   pub actions : List ActionView
   pub refusals : List RefusedInstanceView
@@ -40,33 +40,33 @@ pub record OfView : Type 0 where
 abbrev pub action : OfView → ℕ → InstanceKeyView → StepView → ActionView
 action of i key step = record { resource = of.resource; instance = i; addr = of.addr; key = key; step = step; version = of.version }
 
--- what is decided so far with what becomes of one instance more: its actions, or its refusal
+-- what is decided so far with the outcome of one more instance: its actions, or its refusal
 abbrev pub with_outcome : OfView → ℕ → InstanceKeyView → OutcomeView → DecidedView → DecidedView
 with_outcome of i key (Ok steps) d = record { actions = d.actions ++ map (action of i key) steps; refusals = d.refusals }
 with_outcome of i key (Err why) d = record { actions = d.actions; refusals = d.refusals ++ record { addr = of.addr; key = key; why = why } ∷ [] }
 
--- what is decided so far with what becomes of members, one after another, which are numbered from one number on
+-- what is decided so far with the outcomes of members, which are numbered in order from one number on
 abbrev pub with_members : OfView → (InstanceToPlanView → OutcomeView) → ℕ → List InstanceToPlanView → DecidedView → DecidedView
 with_members of becomes i [] d = d
 with_members of becomes i (m ∷ ms) d = with_members of becomes (i + 1) ms (with_outcome of i m.key (becomes m) d)
 
--- the version of a schema; where there is none, nothing is done that names it
+-- the version of a schema, or 0 if there is none, and then no action has it
 abbrev pub version_of : Option SchemaView → ℕ
 version_of schema = option_map_or (λ s. s.version) schema 0
 
--- What is decided so far with the members of a resource whose block stands, numbered from 0 on.
+-- What is decided so far with the members of a configured resource, numbered from 0 on.
 abbrev pub with_block : List Meaning → List ResourceView → ℕ → BlockView → Environment → InstanceKeysView → DecidedView → DecidedView
 with_block ms resources n block env shape d =
     let schema = schema_in block.addr.type_name ms in
     with_members (record { resource = n; addr = block.addr; version = version_of schema }) (member_outcome schema block env) 0 (block_members shape block resources) d
 
--- And with those of a resource whose block is gone.
+-- What is decided so far with the members of an orphan, numbered from 0 on.
 abbrev pub with_orphan : List Meaning → ℕ → ResourceView → DecidedView → DecidedView
 with_orphan ms n r d =
     let schema = schema_in r.addr.type_name ms in
     with_members (record { resource = n; addr = r.addr; version = version_of schema }) (orphan_outcome schema) 0 (members [] r.records) d
 
--- without where they lie in memory
+-- a refused instance as plain data
 abbrev pub refused_of : RefusedInstance → RefusedInstanceView
 refused_of r = record { addr = addr_of r.addr; key = instance_key_of r.key; why = decision_fault_of r.why }
 

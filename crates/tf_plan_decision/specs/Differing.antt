@@ -5,7 +5,7 @@ use Rattle.tf_provider_protocol.specs.Schema.{SchemaView, attribute_named}
 use Rattle.tf_value_data.specs.Known.{known}
 use Rattle.tf_value_data.specs.Tree.{Tree, Entries, no_entries, entry, map, part_at, same}
 
--- A value differs from the prior one where the two aren't equal, or something in it isn't known yet.
+-- A value differs from the prior one if the two aren't equal, or if a part of it isn't known yet.
 abbrev pub differs : Option Tree → Tree → Bool
 differs None new = true
 differs (Some old) new = not (same old new) || not (known new)

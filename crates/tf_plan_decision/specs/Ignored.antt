@@ -1,4 +1,4 @@
--- Names whose changes are ignored, but that no attribute has, beside what is wrong with arguments.
+-- Names in `ignore_changes` that no attribute has, together with the faults of arguments.
 use Rattle.std.specs.Prelude.{ℕ, if◌then◌else◌, List, [], ◌∷◌, is_some, Option, Some, None, Result, Ok, Err}
 use Rattle.tf_plan_object.specs.Instance.{InstanceFaultView, for_each_fault, argument_fault}
 use Rattle.tf_plan_object.specs.Planned.{NamedFaultView}
@@ -12,7 +12,7 @@ abbrev pub unknown_names : SchemaView → List (List ℕ) → List (List ℕ)
 unknown_names schema [] = []
 unknown_names schema (name ∷ names) = if is_some (attribute_named name schema) then unknown_names schema names else name ∷ unknown_names schema names
 
--- A name in `ignore_changes` has to be that of an attribute. The first in byte order that isn't is at fault.
+-- A name in `ignore_changes` has to be that of an attribute. The first one in byte order that isn't is the fault.
 abbrev pub ignored_fault : SchemaView → List (List ℕ) → Option (List ℕ)
 ignored_fault schema ignored = first_name (unknown_names schema ignored)
 
@@ -20,8 +20,8 @@ ignored_fault schema ignored = first_name (unknown_names schema ignored)
 abbrev pub sooner_fault : NamedFaultView → NamedFaultView → NamedFaultView
 sooner_fault old new = if is_below new.0 old.0 then new else old
 
--- What is planned for an instance, where a name in `ignore_changes` that is no attribute's is as bad as an argument of that
--- name: of all names with a fault the first in byte order is told. A fault of `for_each` comes before them.
+-- What is planned for an instance. A name in `ignore_changes` that no attribute has is as bad as an argument of that
+-- name: of all names with a fault the first in byte order is reported. A fault of `for_each` comes before them.
 abbrev pub heeding : Option (List ℕ) → Result Tree InstanceFaultView → Result Tree InstanceFaultView
 heeding None planned = planned
 heeding (Some name) (Ok t) = Err (argument_fault (name, BadArgument))

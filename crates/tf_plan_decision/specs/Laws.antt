@@ -1,4 +1,4 @@
--- What holds of decisions, whatever was there and is planned.
+-- What holds of decisions, for any prior and planned objects.
 use Rattle.std.specs.Prelude.{◌≡◌, ℕ, Bool, true, false, ◌||◌, ◌⊎◌, not, List, [], ◌∷◌, Option, Some, None, Result, Ok}
 use Rattle.std.specs.List.{list_all}
 use Rattle.std.specs.Option.{option_map_or}
@@ -20,8 +20,9 @@ CreatesAreFirst =
     (schema : SchemaView) (ignored : List (List ℕ)) (prior : Option RecordView) (planned t : Tree)
     → change schema ignored prior planned ≡ create t → (prior ≡ None) × (t ≡ planned)
 
--- What an update says: the prior object isn't tainted, the object that is asked for is the planned one with what is kept,
--- and the names are those of the attributes in which it differs, of which there are some and none replaces it.
+-- The conditions of an update. The prior object isn't tainted, and the object that is asked for is the planned one with
+-- what is kept. The names are those of the attributes in which it differs; there is at least one, and none of them
+-- replaces the object.
 pub record IsUpdate (schema : SchemaView) (ignored : List (List ℕ)) (r : RecordView) (planned t : Tree) (names : List (List ℕ)) : Type 0 where
   pub untainted : r.tainted ≡ false
   pub object : t ≡ kept_object schema ignored r.attributes planned
@@ -35,16 +36,16 @@ UpdatesDiffer =
     (schema : SchemaView) (ignored : List (List ℕ)) (r : RecordView) (planned t : Tree) (names : List (List ℕ))
     → change schema ignored (Some r) planned ≡ update t names → IsUpdate schema ignored r planned t names
 
--- Changes replace an object that isn't tainted: the names are those of the attributes that differ and replace it, of which
--- there are some.
+-- Changes replace an object that isn't tainted: the names are those of the attributes that differ and replace it, and
+-- there is at least one.
 pub record IsForced (schema : SchemaView) (ignored : List (List ℕ)) (r : RecordView) (planned : Tree) (names : List (List ℕ)) : Type 0 where
   pub untainted : r.tainted ≡ false
   pub differs : names ≡ forcing schema (differing r.attributes (kept_object schema ignored r.attributes planned))
   pub some : ¬ (names ≡ [])
   pub all_force : list_all (forces_new schema) names ≡ true
 
--- A replace asks for what is planned, with all arguments as configured. Either the prior object is tainted, or it names an
--- attribute that differs and whose change replaces the object.
+-- A replace asks for what is planned, with all arguments as configured. Either the prior object is tainted, or the
+-- replace names an attribute that differs and whose change replaces the object.
 abbrev pub ReplacesHaveACause : Type 0
 ReplacesHaveACause =
     (schema : SchemaView) (ignored : List (List ℕ)) (r : RecordView) (planned t : Tree) (names : List (List ℕ))
@@ -64,12 +65,12 @@ asked (create t) = Some t
 asked (update t names) = Some t
 asked (replace t names) = Some t
 
--- an attribute keeps its prior value, or all of its planned one is known
+-- an attribute keeps its prior value, or its planned one is known in every part
 abbrev pub is_settled : SchemaView → List (List ℕ) → Tree → AttributeView → Bool
 is_settled schema ignored planned a = is_kept schema ignored a.name || option_map_or known (part_at a.name planned) false
 
--- What was asked for and answered well is asked for no more: where a reply is good, and all that is planned is known but for
--- what is kept, nothing is done beside the object that was replied, by what was planned before it.
+-- What was asked for and answered well isn't asked for again: if a reply is good, and all that is planned is known
+-- except for what is kept, the same plan decides on nothing for the object in the reply.
 abbrev pub GoodRepliesStay : Type 0
 GoodRepliesStay =
     (schema : SchemaView) (ignored : List (List ℕ)) (prior : Option RecordView) (r : RecordView) (planned t : Tree)
@@ -84,8 +85,8 @@ GoodRepliesStay =
 abbrev pub allowed_in : Tree → AttributeView → Bool
 allowed_in t a = option_map_or (is_allowed a) (part_at a.name t) false
 
--- A prior object that fits its schema was written with its version, and has exactly its attributes, each with a value that
--- is allowed. The keys of each `Value` stand in byte order.
+-- A prior object that fits its schema was written with the schema's version, and has exactly its attributes, each with
+-- an allowed value. The keys of each `Value` are in byte order.
 abbrev pub FitsExactly : Type 0
 FitsExactly =
     (schema : SchemaView) (version : ℕ) (t : Tree) → IsSchema schema → IsSorted t → prior_fault schema version t ≡ None
@@ -95,15 +96,15 @@ FitsExactly =
 abbrev pub GoodRepliesFit : Type 0
 GoodRepliesFit = (schema : SchemaView) (t : Tree) → well_formed schema t ≡ true → prior_fault schema schema.version t ≡ None
 
--- A record of the object that a provider replied when it was asked for one, where the reply is good.
+-- A record of the object in a good reply to a request for an object.
 pub record IsAnswer (schema : SchemaView) (wanted : Tree) (r : RecordView) : Type 0 where
   pub current : r.id.deposed ≡ None
   pub untainted : r.tainted ≡ false
   pub version : r.schema_version ≡ schema.version
   pub good : is_good_verdict (verdict_on_object schema (Some wanted) r.attributes) ≡ true
 
--- So what was decided, asked for and answered well is followed by nothing: where the record of the answer is all that there
--- is, the same plan decides on nothing.
+-- So what was decided, asked for and answered well is followed by nothing: if the record of the answer is the only one,
+-- the same plan decides on nothing.
 abbrev pub AnswersStay : Type 0
 AnswersStay =
     (schema : SchemaView) (lifecycle : LifecycleView) (records : List RecordView) (r : RecordView) (planned t : Tree) (d : DecisionView)
@@ -112,21 +113,21 @@ AnswersStay =
     → list_all (is_settled schema lifecycle.ignore_changes planned) schema.attributes ≡ true
     → decision schema lifecycle (r ∷ []) (Ok planned) ≡ Ok nothing
 
--- Nothing is done only beside an object that isn't tainted and is the planned one with what is kept.
+-- Nothing is done only if the prior object isn't tainted and equals the planned one with what is kept.
 abbrev pub NothingIsDoneBesideEqual : Type 0
 NothingIsDoneBesideEqual =
     (schema : SchemaView) (ignored : List (List ℕ)) (r : RecordView) (planned : Tree)
     → IsSchema schema → has_attributes schema planned ≡ true → has_attributes schema r.attributes ≡ true
     → change schema ignored (Some r) planned ≡ nothing → (r.tainted ≡ false) × (kept_object schema ignored r.attributes planned ≡ r.attributes)
 
--- And beside such an object nothing is done, where it is known, as each object of a state is.
+-- And for such a prior object nothing is done, if it is known, as each object of a state is.
 abbrev pub BesideEqualNothingIsDone : Type 0
 BesideEqualNothingIsDone =
     (schema : SchemaView) (ignored : List (List ℕ)) (r : RecordView) (planned : Tree)
     → IsSchema schema → has_attributes schema r.attributes ≡ true → known r.attributes ≡ true → r.tainted ≡ false
     → kept_object schema ignored r.attributes planned ≡ r.attributes → change schema ignored (Some r) planned ≡ nothing
 
--- So it is where the planned object is the prior one.
+-- So nothing is done if the planned object is the prior one.
 abbrev pub BesidePlannedNothingIsDone : Type 0
 BesidePlannedNothingIsDone =
     (schema : SchemaView) (ignored : List (List ℕ)) (r : RecordView) (planned : Tree)

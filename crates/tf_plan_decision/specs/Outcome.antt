@@ -1,4 +1,4 @@
--- What becomes of a member of a resource in the plan.
+-- The outcomes of a resource's members in the plan.
 use Rattle.std.specs.Prelude.{if◌then◌else◌, List, Option, Some, None, Result, Ok, Err}
 use Rattle.tf_plan_data.specs.Action.{StepView}
 use Rattle.tf_plan_object.specs.Instance.{instance_object}
@@ -10,7 +10,7 @@ use Rattle.tf_plan_order.specs.Members.{InstanceToPlanView}
 use Rattle.tf_provider_protocol.specs.Schema.{SchemaView}
 use Rattle.tf_state_data.specs.Record.{RecordView}
 
--- what is done, or why the instance is refused
+-- the steps of an instance, or why it is refused
 abbrev pub OutcomeView : Type 0
 OutcomeView = Result (List StepView) DecisionFaultView
 
@@ -18,7 +18,7 @@ abbrev pub by_decision : List RecordView → Result DecisionView DecisionFaultVi
 by_decision records (Ok d) = Ok (decided_steps records d)
 by_decision records (Err why) = Err why
 
--- An instance that the configuration has goes by what is decided beside its records.
+-- The outcome of an instance that the configuration has follows from the decision by its records.
 abbrev pub declared_outcome : SchemaView → BlockView → Environment → InstanceToPlanView → OutcomeView
 declared_outcome schema block env m = by_decision m.records (decision schema block.lifecycle m.records (instance_object schema block m.key env))
 
@@ -26,16 +26,16 @@ abbrev pub by_removal : List RecordView → Option DecisionFaultView → Outcome
 by_removal records None = Ok (removal_steps records)
 by_removal records (Some why) = Err why
 
--- One that the configuration doesn't have is destroyed with all its objects, unless that is refused.
+-- An instance that the configuration doesn't have is destroyed with all its objects, unless that is refused.
 abbrev pub removal_outcome : SchemaView → Option LifecycleView → InstanceToPlanView → OutcomeView
 removal_outcome schema lifecycle m = by_removal m.records (removal_fault schema lifecycle m.records)
 
--- What becomes of a member of a resource whose block stands, by the schema of its type: it is refused where there is none.
+-- The outcome of a member of a configured resource, by the schema of its type. It is refused if there is no schema.
 abbrev pub member_outcome : Option SchemaView → BlockView → Environment → InstanceToPlanView → OutcomeView
 member_outcome None block env m = Err no_provider
 member_outcome (Some schema) block env m = if m.is_declared then declared_outcome schema block env m else removal_outcome schema (Some block.lifecycle) m
 
--- The same where its block is gone.
+-- The outcome of a member of an orphan.
 abbrev pub orphan_outcome : Option SchemaView → InstanceToPlanView → OutcomeView
 orphan_outcome None m = Err no_provider
 orphan_outcome (Some schema) m = removal_outcome schema None m

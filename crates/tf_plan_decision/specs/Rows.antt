@@ -1,4 +1,4 @@
--- What is decided of each name, kept by its place.
+-- The decisions about each name, by its place.
 use Rattle.std.specs.Prelude.{◌≡◌, ◌≢◌, ℕ, Bool, true, List, [], ◌∷◌, ◌++◌, map, Option, Some, None, Contains, fold, slice_get, slice_index_or}
 use Rattle.std.specs.List.{AllByRecursion}
 use Rattle.tf_config_data.specs.Config.{BlockView}
@@ -15,11 +15,11 @@ use Rattle.tf_provider_protocol.specs.Meaning.{Meaning}
 use Rattle.tf_state_data.specs.Resource.{ResourceView}
 use Rattle.tf_value_data.specs.Tree.{Entries}
 
--- what is decided, and more behind it
+-- what is decided, followed by more
 abbrev pub followed_by : DecidedView → DecidedView → DecidedView
 followed_by d more = record { actions = d.actions ++ more.actions; refusals = d.refusals ++ more.refusals }
 
--- what is decided at each place of a list; past its end nothing is
+-- the decisions at each place of a list; past its end there are no decisions
 abbrev pub rows_of : List Decided → ℕ → DecidedView
 rows_of rows n = slice_index_or (map decided_of rows) n nothing_decided
 
@@ -28,28 +28,28 @@ abbrev pub NeedsAreWanted : List NameView → List Bool → Type 0
 NeedsAreWanted names wanted = (n : ℕ) (block : BlockView) → meant_at names n ≡ Some (a_block block) → AllByRecursion (λ a. has wanted a ≡ true) (directly_before names n)
 
 module _ (ms : List Meaning) (resources : List ResourceView) (variables : Entries) (names : List NameView) (shapes : ℕ → InstanceKeysView) where
-  -- what is decided of a name alone
+  -- the decisions about a name alone
   abbrev pub row : (ℕ → ResolvedView) → ℕ → Option Meant → DecidedView
   row resolved_names n None = nothing_decided
   row resolved_names n (Some meant) = with_meant ms resources variables names shapes resolved_names n meant nothing_decided
 
-  -- of each name in a list what is kept is what is decided of it where names stand for what is decided
+  -- for each name in a list, its row holds the decisions about it, by the resolved names of the plan's stage
   abbrev pub AreDecided : List ℕ → (ℕ → DecidedView) → Type 0
   AreDecided order rows =
       (resolved_names : ℕ → ResolvedView) → AreResolvedNames (deciding ms resources shapes) variables names resolved_names
       → (n : ℕ) → Contains order n → rows n ≡ row resolved_names n (meant_at names n)
 
--- What is decided so far with what stands at a place: what is kept of a name, or an orphan.
+-- What is decided so far with what is at a place: the row of a name, or an orphan.
 abbrev pub with_row : List Meaning → (ℕ → DecidedView) → ℕ → Option ResourceRefView → DecidedView → DecidedView
 with_row ms rows n None d = d
 with_row ms rows n (Some (a_name name)) d = followed_by d (rows n)
 with_row ms rows n (Some (an_orphan r)) d = with_orphan ms n r d
 
--- what is decided of all that stands at places, in their order
+-- the decisions about all that is at places, in their order
 abbrev pub gathered : List Meaning → (ℕ → DecidedView) → List ResourceRefView → List ℕ → DecidedView
 gathered ms rows all order = fold (λ d n. with_row ms rows n (slice_get all n) d) nothing_decided order
 
--- no place stands in a list twice
+-- no place occurs in a list twice
 abbrev pub AreOnce : List ℕ → Type 0
 AreOnce [] = Unit {0}
 AreOnce (n ∷ ns) = AllByRecursion (λ m. m ≢ n) ns × AreOnce ns

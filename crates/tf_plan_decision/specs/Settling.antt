@@ -1,4 +1,4 @@
--- What becomes of the members of a resource, and what its instances stand for by that.
+-- The outcomes of a resource's members, and the values of its instances that follow.
 use Rattle.std.specs.Prelude.{ℕ, ◌+◌, Bool, ◌||◌, if◌then◌else◌, is_ok, List, [], ◌∷◌, Option, Some, None, option_map, option_and_then, Ok, Err}
 use Rattle.std.specs.List.{list_all}
 use Rattle.std.specs.Option.{option_or}
@@ -17,22 +17,22 @@ use Rattle.tf_state_data.specs.Order.{at_key}
 use Rattle.tf_state_data.specs.Record.{RecordView}
 use Rattle.tf_value_data.specs.Tree.{Tree}
 
--- A member of a resource under its number, and what becomes of it.
+-- A member of a resource, with its number and its outcome.
 pub record SettledView : Type 0 where
   pub instance : ℕ
   pub member : InstanceToPlanView
   pub outcome : OutcomeView
 
--- without where it lies in memory
+-- a member with its outcome, as plain data
 abbrev pub settled_of : Settled → SettledView
 settled_of s = record { instance = s.instance; member = member_of s.member.now; outcome = outcome_of s.outcome }
 
--- members, which are numbered from one number on, with what becomes of each
+-- members, which are numbered from one number on, with their outcomes
 abbrev pub settled_from : (InstanceToPlanView → OutcomeView) → ℕ → List InstanceToPlanView → List SettledView
 settled_from becomes i [] = []
 settled_from becomes i (m ∷ ms) = record { instance = i; member = m; outcome = becomes m } ∷ settled_from becomes (i + 1) ms
 
--- what is decided so far with what becomes of these members
+-- what is decided so far with the outcomes of these members
 abbrev pub with_settled : OfView → List SettledView → DecidedView → DecidedView
 with_settled of [] d = d
 with_settled of (s ∷ ss) d = with_settled of ss (with_outcome of s.instance s.member.key s.outcome d)
@@ -44,26 +44,26 @@ asked_in (update prior asked names) = Some asked
 asked_in (replacement asked names) = Some asked
 asked_in _ = None
 
--- the object that steps ask for; of an instance the apply stands first
+-- the object that steps ask for; the apply of an instance is its first step
 abbrev pub asked_by : List StepView → Option Tree
 asked_by [] = None
 asked_by (step ∷ steps) = asked_in step
 
--- What an instance with these records stands for, by what becomes of it: for the object that is asked for, or for the one that
--- is there where none is; for nothing where it is refused.
+-- The planned object of an instance with these records, by its outcome: the object that is asked for, or the current
+-- one if no object is asked for, or nothing if the instance is refused.
 abbrev pub stood_for : List RecordView → OutcomeView → Option Tree
 stood_for records (Ok steps) = option_or (asked_by steps) (option_map (λ r. r.attributes) (current records))
 stood_for records (Err why) = None
 
--- the instance that a member is
+-- the key of a member
 abbrev pub settled_key : SettledView → InstanceKeyView
 settled_key s = s.member.key
 
--- the member that an instance is, and what becomes of it
+-- the member with a key, and its outcome
 abbrev pub settled_at : InstanceKeyView → List SettledView → Option SettledView
 settled_at key ss = at_key settled_key instance_key_cmp key ss
 
--- what an instance stands for
+-- the planned object of an instance
 abbrev pub settled_object : List SettledView → InstanceKeyView → Option Tree
 settled_object ss key = option_and_then (λ s. stood_for s.member.records s.outcome) (settled_at key ss)
 
@@ -75,6 +75,6 @@ is_free s = s.member.is_declared || is_ok s.outcome
 abbrev pub all_free : List SettledView → Bool
 all_free ss = list_all is_free ss
 
--- what a resource stands for, by what becomes of its members
+-- the value of a resource, by the outcomes of its members
 abbrev pub settled_standing : InstanceKeysView → List SettledView → ResolvedView
 settled_standing shape ss = together (if all_free ss then Some shape else None) (settled_object ss)

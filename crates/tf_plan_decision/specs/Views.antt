@@ -1,4 +1,4 @@
--- Outcomes without where they lie in memory.
+-- Outcomes as plain data.
 use Rattle.std.specs.Prelude.{List, map, Result, Ok, Err, Vec}
 use Rattle.std.specs.declared.alloc.Global.{Global}
 use Rattle.tf_plan_data.specs.Action.{StepView, step_of}

@@ -1,4 +1,4 @@
-//! What is done and what is refused, one member after another.
+//! Actions and refusals, collected one member after another.
 
 ghost use Rattle.std.specs.Prelude.{◌≡◌, ◌++◌, IfOk, OnOk, map, option_map};
 ghost use Rattle.tf_plan_data.specs.Action.{action_of};
@@ -26,17 +26,17 @@ use tf_provider_protocol::{Provider, Schema, schema_for};
 pub struct RefusedInstance {
     /// Its resource.
     pub addr: ResourceAddr,
-    /// Which instance it is.
+    /// Its key.
     pub key: InstanceKey,
     /// Why it is refused.
     pub why: DecisionFault,
 }
 
-/// What is done, and what is refused.
+/// Actions and refusals.
 #[derive(Debug, Drop)]
 pub struct Decided {
-    /// The actions, in the order in which instances were decided; of one instance the apply, the destroy of the current object,
-    /// and the destroys of deposed ones by their keys.
+    /// The actions, in the order in which instances were decided. Within an instance the apply comes first, then the
+    /// destroy of the current object, then the destroys of deposed ones by their keys.
     pub actions: Vec<Action>,
     /// The instances that are refused, in the order in which they were decided.
     pub refusals: Vec<RefusedInstance>,
@@ -54,7 +54,7 @@ pub(crate) struct OutcomeOf<'a> {
 }
 
 impl Decided {
-    /// Nothing is done and nothing refused.
+    /// Returns no actions and no refusals.
     pub(crate) fn nothing(alloc: Global) -> Decided
         ensures { decided_of result ≡ nothing_decided }
     {
@@ -64,7 +64,7 @@ impl Decided {
         }
     }
 
-    /// Moves what was decided elsewhere behind what is decided so far.
+    /// Appends actions and refusals, by moving them.
     pub(crate) fn append(&mut self, more: Decided) -> Result<(), AllocError>
         ensures { OnOk result (decided_of self.new ≡ followed_by (decided_of self.old) (decided_of more)) }
     {
@@ -76,7 +76,7 @@ impl Decided {
         self.refusals.append(&mut refusals)
     }
 
-    /// Adds what becomes of the members of a resource whose block stands.
+    /// Adds the outcomes of the members of a configured resource.
     pub(crate) fn add_settled(
         &mut self,
         of: &OutcomeOf<'_>,
@@ -96,11 +96,11 @@ impl Decided {
         Ok(())
     }
 
-    /// Decides the members of a resource whose block is gone.
+    /// Decides the members of an orphan.
     ///
     /// # Errors
     ///
-    /// Only where memory runs out.
+    /// Fails only if memory runs out.
     pub fn add_orphan(
         &mut self,
         alloc: Global,
@@ -121,7 +121,7 @@ impl Decided {
     }
 }
 
-/// The version of a schema, where there is one.
+/// Returns the version of a schema, or 0 if there is none.
 pub(crate) fn version_of(schema: Option<&Schema>) -> u32
     ensures { result ≡ version_of (option_map (λ s. s.now) schema.entry) }
 {
@@ -131,7 +131,7 @@ pub(crate) fn version_of(schema: Option<&Schema>) -> u32
     }
 }
 
-/// Adds what becomes of the members of a resource whose block is gone.
+/// Adds the outcomes of the members of an orphan.
 fn add_gone(
     alloc: Global,
     decided: &mut Decided,
@@ -150,7 +150,7 @@ fn add_gone(
     Ok(())
 }
 
-/// Adds what becomes of an instance.
+/// Adds the outcome of an instance.
 fn add_outcome(
     decided: &mut Decided,
     of: &OutcomeOf<'_>,

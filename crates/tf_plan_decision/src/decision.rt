@@ -1,4 +1,4 @@
-//! What is done about an instance that the configuration has.
+//! Decisions about instances that the configuration has.
 
 ghost use Rattle.std.specs.Prelude.{◌≡◌, IfOk, map, option_map, string_bytes};
 ghost use Rattle.tf_plan_object.specs.Instance.{instance_of};
@@ -18,17 +18,17 @@ use tf_provider_protocol::Schema;
 use tf_state_data::Record;
 use tf_value_data::Value;
 
-/// What is done about an instance.
+/// A decision about an instance.
 #[derive(Debug, Drop)]
 pub(crate) enum Decision {
-    /// Nothing: the object is as it should be.
+    /// Nothing is done: the object is as it should be.
     Nothing,
-    /// There is no object, and this one is made.
+    /// There is no object, and this one is created.
     Create(Value),
-    /// The object is changed to this one, in the attributes of these names, in byte order.
+    /// The object is updated to this one, in the attributes of these names, in byte order.
     Update(Value, Vec<String>),
-    /// The object is destroyed and this one made in its place. The names, in byte order, are those of the attributes that
-    /// differ and whose changes replace an object; there are none where the prior object is tainted.
+    /// The object is replaced by this one. The names, in byte order, are those of the attributes that differ and whose
+    /// changes replace an object. The list is empty if the prior object is tainted.
     Replace(Value, Vec<String>),
 }
 
@@ -39,21 +39,23 @@ pub enum DecisionFault {
     NoProvider,
     /// A prior object doesn't fit the schema of its type.
     Unfit(PriorFault),
-    /// Something is wrong with what is planned; a name in `ignore_changes` that no attribute has is a bad argument.
+    /// The planned object has a fault. A name in `ignore_changes` that no attribute has is a bad argument.
     Faulty(InstanceFault),
     /// The current object would be replaced or destroyed, and the block has `prevent_destroy`.
     Prevented,
 }
 
-/// Decides what is done about an instance, by what is planned for it (`tf_plan_object::plan_instance`) and by the records of
-/// what exists of it: its current object, if there is one, and the deposed ones by their keys. Or why it is refused, the
-/// first of these: one of these objects doesn't fit the schema; something is wrong with what is planned, of all names with
-/// a fault the first in byte order, those in `ignore_changes` among them that no attribute has; the current object would
-/// be replaced and may not be destroyed.
+/// Decides about an instance, by what is planned for it (`tf_plan_object::plan_instance`) and by its records: its
+/// current object, if there is one, and the deposed ones by their keys. Or returns the first reason why it is refused:
+///
+/// - One of these objects doesn't fit the schema.
+/// - The planned object has a fault. Of all names with a fault, including names in `ignore_changes` that no attribute
+///   has, the first in byte order is reported.
+/// - The current object would be replaced, and the block has `prevent_destroy`.
 ///
 /// # Errors
 ///
-/// Only where memory runs out.
+/// Fails only if memory runs out.
 pub(crate) fn decide(
     alloc: Global,
     schema: &Schema,
@@ -78,13 +80,13 @@ pub(crate) fn decide(
     }
 }
 
-/// Why the objects of an instance that the configuration doesn't have can't be destroyed, if anything refuses it: one of them
-/// doesn't fit the schema, or else there is a current object and the block of its resource, where one stands, has
+/// Returns why the objects of an instance that the configuration doesn't have can't be destroyed, if anything refuses
+/// it. One of them doesn't fit the schema, or else there is a current object and its resource has a block with
 /// `prevent_destroy`. Deposed objects aren't protected.
 ///
 /// # Errors
 ///
-/// Only where memory runs out.
+/// Fails only if memory runs out.
 pub(crate) fn removal_fault_of(
     alloc: Global,
     schema: &Schema,
@@ -113,7 +115,7 @@ fn is_protected(lifecycle: Option<&Lifecycle>, records: &[Record]) -> bool
     }
 }
 
-/// The record of the current object.
+/// Returns the record of the current object.
 pub(crate) fn current(records: &[Record]) -> Option<&Record>
     ensures { option_map (λ r. record_of r.now) result ≡ current (map record_of records.now) }
 {
@@ -125,7 +127,7 @@ pub(crate) fn current(records: &[Record]) -> Option<&Record>
     None
 }
 
-/// What is done, whatever may not be destroyed.
+/// Compares the planned object with the prior one, ignoring `prevent_destroy`.
 fn change(
     alloc: Global,
     schema: &Schema,
@@ -148,7 +150,7 @@ fn change(
     }
 }
 
-/// What is done beside a prior object that isn't tainted.
+/// Compares the planned object with a prior one that isn't tainted.
 fn beside(
     alloc: Global,
     schema: &Schema,
@@ -172,7 +174,7 @@ fn beside(
     }
 }
 
-/// A decision, unless it destroys what may not be destroyed.
+/// Returns a decision, or refuses a replace if `prevent_destroy` is set.
 fn unless_prevented(prevent_destroy: bool, change: Decision) -> Result<Decision, DecisionFault>
     ensures { answer_of result ≡ unless_prevented prevent_destroy (decision_of change) }
 {

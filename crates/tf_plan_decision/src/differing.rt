@@ -9,7 +9,7 @@ use std::collections::BTreeMap;
 use tf_provider_protocol::Schema;
 use tf_value_data::{Value, is_known};
 
-/// The names of the attributes in which an object differs from the prior one, in byte order.
+/// Returns the names of the attributes in which an object differs from the prior one, in byte order.
 pub(crate) fn differing(
     alloc: Global,
     prior: &Value,
@@ -39,7 +39,7 @@ fn differing_entries(
     Ok(names)
 }
 
-/// Whether a value differs from the prior one, or isn't known yet in every part.
+/// Checks whether a value differs from the prior one, or has a part that isn't known yet.
 fn differs(prior: Option<&Value>, value: &Value) -> bool
     ensures { result ≡ differs (option_map (λ v. tree_of v.now) prior.entry) (tree_of value.now) }
 {
@@ -49,7 +49,7 @@ fn differs(prior: Option<&Value>, value: &Value) -> bool
     }
 }
 
-/// The names among these whose changes replace the object.
+/// Returns the names among these whose changes replace the object.
 pub(crate) fn forcing(
     alloc: Global,
     schema: &Schema,
@@ -66,7 +66,7 @@ pub(crate) fn forcing(
     Ok(found)
 }
 
-/// Whether a name is that of an attribute whose change replaces the object.
+/// Checks whether a name is that of an attribute whose change replaces the object.
 fn forces_new(schema: &Schema, name: &str) -> bool
     ensures { result ≡ forces_new schema.now name.now }
 {

@@ -1,4 +1,4 @@
-//! Names in `ignore_changes`, beside what is wrong with arguments.
+//! Faults of names in `ignore_changes`, together with those of arguments.
 
 ghost use Rattle.std.specs.Prelude.{◌≡◌, IfOk, map, option_map, string_bytes};
 ghost use Rattle.tf_plan_object.specs.Instance.{argument_fault, instance_fault_of, instance_of};
@@ -11,7 +11,7 @@ use tf_plan_object::{ArgumentFault, InstanceFault};
 use tf_provider_protocol::Schema;
 use tf_value_data::Value;
 
-/// The first name, in byte order, among those whose changes are ignored, that no attribute of the schema has.
+/// Returns the first name, in byte order, in `ignore_changes` that no attribute of the schema has.
 pub fn ignored_fault<'a>(schema: &Schema, ignored: &'a [String]) -> Option<&'a str>
     ensures { option_map (λ s. s.now) result ≡ ignored_fault schema.now (map string_bytes ignored.now) }
 {
@@ -24,8 +24,8 @@ pub fn ignored_fault<'a>(schema: &Schema, ignored: &'a [String]) -> Option<&'a s
     first
 }
 
-/// What is planned for an instance, where the first name in `ignore_changes` that is no attribute's, if there is one, is a
-/// bad argument.
+/// Adds to what is planned for an instance a bad argument for a name in `ignore_changes` that no attribute has, if
+/// there is one.
 pub(crate) fn heeding(
     alloc: Global,
     name: Option<&str>,
@@ -45,7 +45,7 @@ pub(crate) fn heeding(
     }
 }
 
-/// The fault of the argument that was found, or that of a name whose changes are ignored where this comes first in byte order.
+/// Returns the fault of the argument that was found, or that of the ignored name if this comes first in byte order.
 fn sooner_fault(
     alloc: Global,
     found: String,

@@ -3,8 +3,8 @@
 ghost use Rattle.tf_plan_decision.specs.Laws.{AnswersStay, BesideEqualNothingIsDone, BesidePlannedNothingIsDone, CreatesAreFirst, FitsExactly, GoodRepliesFit, GoodRepliesStay, NothingIsDoneBesideEqual, PreventedStay, ReplacesHaveACause, UpdatesDiffer};
 
 /// A create has no prior object. An update differs from the prior object in some attribute, and in none whose change
-/// replaces the object. A replace asks for what is planned, and its prior object is tainted, or it names an attribute that
-/// differs and whose change replaces the object.
+/// replaces the object. A replace asks for what is planned, and either its prior object is tainted, or it names an
+/// attribute that differs and whose change replaces the object.
 pub fn changes_have_a_cause()
     ensures creates { CreatesAreFirst }
     ensures updates { UpdatesDiffer }
@@ -16,22 +16,23 @@ pub fn prevented_objects_stay()
     ensures { PreventedStay }
 {}
 
-/// A prior object that fits its schema was written with its version, and has exactly its attributes, each with a value that is
-/// allowed.
+/// A prior object that fits its schema was written with the schema's version, and has exactly its attributes, each with
+/// an allowed value.
 pub fn fitting_objects_have_attributes()
     ensures { FitsExactly }
 {}
 
-/// Nothing is done exactly beside an object that isn't tainted and is the planned one with what is kept; so beside one that is
-/// the planned one.
+/// Nothing is done exactly if the prior object isn't tainted and equals the planned one with what is kept. So nothing
+/// is done if it equals the planned one.
 pub fn nothing_is_done_beside_equal()
     ensures only { NothingIsDoneBesideEqual }
     ensures there { BesideEqualNothingIsDone }
     ensures planned { BesidePlannedNothingIsDone }
 {}
 
-/// What was asked for and answered well is asked for no more: the answer fits the schema, and beside it nothing is done by
-/// what was planned before, where all of that is known but for what is kept. So a good apply's new state plans nothing again.
+/// What was asked for and answered well isn't asked for again. The answer fits the schema, and by what was planned
+/// before, nothing is done about it, if all of that is known except for what is kept. So the state after a good apply
+/// plans nothing again.
 pub fn good_replies_stay()
     ensures fits { GoodRepliesFit }
     ensures change { GoodRepliesStay }

@@ -1,9 +1,9 @@
-//! What is decided about the instances of a configuration and a prior state.
+//! Decisions about the instances of a configuration and a prior state.
 //!
-//! From the planned object of an instance, its prior object, the schema of its type and the block's `lifecycle`: nothing, a
-//! create, an update or a replace, or else why it is refused. An instance that the configuration doesn't have is destroyed,
-//! or that is refused. `decide_in_order` decides about each of them once, in the order of their dependence, and `gather` puts
-//! what was decided in address order.
+//! A decision follows from the planned object of an instance, its prior object, the schema of its type and the block's
+//! `lifecycle`. It is nothing, a create, an update or a replace, or else the reason why the instance is refused. An
+//! instance that the configuration doesn't have is destroyed, or that is refused. `decide_in_order` decides about each
+//! of them once, in the order of their dependence, and `gather` puts the decisions in address order.
 #![tactic(auto)]
 
 mod collecting;

@@ -2,7 +2,7 @@
 
 ghost use Rattle.tf_plan_decision.specs.Locality.{DecidingIsLocal};
 
-/// What a block refers to decides what it stands for, whatever the state has.
+/// What a block refers to determines its value, whatever the state has.
 pub fn deciding_is_local()
     ensures { DecidingIsLocal }
 {}

@@ -3,7 +3,7 @@
 ghost use Rattle.std.specs.Prelude.{◌≡◌, option_map};
 ghost use Rattle.tf_plan_decision.specs.Names.{sooner_name};
 
-/// The one of two names that is first in byte order.
+/// Returns the one of two names that is first in byte order.
 pub(crate) fn sooner<'a>(first: Option<&'a str>, name: &'a str) -> Option<&'a str>
     ensures { option_map (λ s. s.now) result ≡ sooner_name (option_map (λ s. s.now) first.entry) name.now }
 {

@@ -1,4 +1,4 @@
-//! What instances stand for in the plan, by what is decided of them.
+//! The planned values of instances, by their outcomes.
 
 ghost use Rattle.std.specs.List.Sorted.{IsStrictlySortedBy, IsStrictlySortedBy-prop};
 ghost use Rattle.std.specs.Prelude.{◌≡◌, if◌then◌else◌, IfOk, map, None, option_map};
@@ -21,7 +21,7 @@ use tf_plan_data::Step;
 use tf_state_data::{Record, State};
 use tf_value_data::Value;
 
-/// The records of the resource at an address; none where the state hasn't got it.
+/// Returns the records of the resource at an address, or an empty slice if the state doesn't have it.
 pub(crate) fn records_at<'a>(state: &'a State, addr: &ResourceAddr) -> &'a [Record]
     ensures records { map record_of result.now ≡ records_at (addr_of addr.now) (state_of state.now).resources }
     ensures ordered { AreById (map record_of result.now) }
@@ -32,7 +32,7 @@ pub(crate) fn records_at<'a>(state: &'a State, addr: &ResourceAddr) -> &'a [Reco
     }
 }
 
-/// What the instances of a resource stand for, by what becomes of its members, which stand in address order.
+/// The objects of a resource's instances, by the outcomes of its members, which are in address order.
 #[derive(Drop)]
 struct SettledObjects<'a> {
     settled: &'a [Settled<'a>],
@@ -50,8 +50,8 @@ impl Keyed for SettledObjects<'_> {
     }
 }
 
-/// What a resource stands for, by what becomes of its members; nothing where one is refused that the configuration doesn't
-/// have, and where it isn't wanted.
+/// Resolves a resource by the outcomes of its members. Returns `Nothing` if a member is refused that the configuration
+/// doesn't have, and if the resource isn't wanted.
 pub(crate) fn settled_standing(
     alloc: Global,
     shape: &InstanceKeys,
@@ -69,7 +69,7 @@ pub(crate) fn settled_standing(
     collect_instances(alloc, shape, &objects)
 }
 
-/// Whether no member is refused that the configuration doesn't have.
+/// Checks that no member is refused that the configuration doesn't have.
 fn all_free(settled: &[Settled<'_>]) -> bool
     ensures { result ≡ all_free (map settled_of settled.now) }
 {
@@ -81,14 +81,14 @@ fn all_free(settled: &[Settled<'_>]) -> bool
     true
 }
 
-/// Whether the configuration has a member, or it isn't refused.
+/// Checks whether the configuration has a member, or it isn't refused.
 fn is_free(one: &Settled<'_>) -> bool
     ensures { result ≡ is_free (settled_of one.now) }
 {
     one.member.is_declared || one.outcome.is_ok()
 }
 
-/// The member of an instance, and what becomes of it.
+/// Returns the member of an instance, with its outcome.
 fn settled_at<'a>(settled: &'a [Settled<'a>], key: &InstanceKey) -> Option<&'a Settled<'a>>
     requires { IsStrictlySortedBy instance_key_cmp (map settled_key (map settled_of settled.now)) }
     ensures { option_map (λ s. settled_of s.now) result ≡ settled_at (instance_key_of key.now) (map settled_of settled.now) }
@@ -99,7 +99,7 @@ fn settled_at<'a>(settled: &'a [Settled<'a>], key: &InstanceKey) -> Option<&'a S
     }
 }
 
-/// What an instance with these records stands for, by what becomes of it; nothing where it is refused.
+/// Returns the planned object of an instance with these records, by its outcome, or `None` if it is refused.
 fn stood_for(
     records: &[Record],
     outcome: &Result<Vec<Step>, DecisionFault>,
@@ -115,7 +115,7 @@ fn stood_for(
     }
 }
 
-/// The object that steps ask for. Of an instance the apply stands first.
+/// Returns the object that steps ask for. The apply of an instance is its first step.
 fn asked_by(steps: &[Step]) -> Option<&Value>
     ensures { option_map (λ v. tree_of v.now) result ≡ asked_by (steps_of steps.now) }
 {
@@ -125,7 +125,7 @@ fn asked_by(steps: &[Step]) -> Option<&Value>
     }
 }
 
-/// The object that a step asks for.
+/// Returns the object that a step asks for.
 fn asked_in(step: &Step) -> Option<&Value>
     ensures { option_map (λ v. tree_of v.now) result ≡ asked_in (step_of step.now) }
 {
@@ -137,7 +137,7 @@ fn asked_in(step: &Step) -> Option<&Value>
     }
 }
 
-/// A copy of the object of a record.
+/// Copies the object of a record.
 fn attributes(prior: Option<&Record>) -> Result<Option<Value>, AllocError>
     ensures { IfOk result (λ object. option_map tree_of object
         ≡ option_map (λ r. r.attributes) (option_map (λ r. record_of r.now) prior.entry)) }

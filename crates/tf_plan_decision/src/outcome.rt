@@ -1,4 +1,4 @@
-//! What becomes of a member of a resource.
+//! The outcomes of a resource's members.
 
 ghost use Rattle.std.specs.Prelude.{◌≡◌, IfOk, option_map};
 ghost use Rattle.tf_config_address.specs.ResourceAddr.{ResourceAddrView};
@@ -17,13 +17,12 @@ use tf_plan_object::plan_instance;
 use tf_plan_order::InstanceToPlan;
 use tf_provider_protocol::Schema;
 
-/// What becomes of a member of a resource whose block stands, by the schema of its type, where references stand for what the
-/// scope says: what is done, step by step, or why it is refused. What the configuration has is decided; what it doesn't have
-/// is destroyed.
+/// Plans one member of a configured resource, by the schema of its type and in a scope: its steps, or why it is
+/// refused. A member that the configuration doesn't have is destroyed.
 ///
 /// # Errors
 ///
-/// Only where memory runs out.
+/// Fails only if memory runs out.
 pub fn member_outcome<S: Scope>(
     alloc: Global,
     schema: Option<&Schema>,
@@ -44,11 +43,11 @@ pub fn member_outcome<S: Scope>(
     }
 }
 
-/// The same of a member of a resource whose block is gone: it is destroyed, or refused.
+/// Plans one member of an orphan: it is destroyed, or refused.
 ///
 /// # Errors
 ///
-/// Only where memory runs out.
+/// Fails only if memory runs out.
 pub fn orphan_outcome(
     alloc: Global,
     schema: Option<&Schema>,
@@ -63,7 +62,7 @@ pub fn orphan_outcome(
     }
 }
 
-/// What becomes of an instance that the configuration has.
+/// Plans an instance that the configuration has.
 fn declared_outcome<S: Scope>(
     alloc: Global,
     schema: &Schema,
@@ -81,7 +80,7 @@ fn declared_outcome<S: Scope>(
     }
 }
 
-/// What becomes of an instance that the configuration doesn't have.
+/// Plans an instance that the configuration doesn't have.
 fn removal_outcome(
     alloc: Global,
     schema: &Schema,

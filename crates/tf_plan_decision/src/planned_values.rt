@@ -1,4 +1,4 @@
-//! What is decided of a block, and what it stands for by that.
+//! The decisions about a block, and the value that follows from them.
 
 ghost use Rattle.std.specs.Prelude.{◌≡◌, if◌then◌else◌, IfOk, map, None};
 ghost use Rattle.tf_expand_keys.specs.Words.{block_at, addr_of, shape_of, resolved_of};
@@ -20,11 +20,11 @@ use tf_plan_order::{InstanceToPlan, members};
 use tf_provider_protocol::{Provider, schema_for};
 use tf_state_data::State;
 
-/// The plan from a prior state: each resource has the instances that the expansion gave it. Each type's provider is the first in
-/// the list that has it.
+/// The plan from a prior state: each resource has the instances that the expansion gave it. Each type's provider is the
+/// first in the list that has the type.
 #[derive(Drop)]
 pub struct PlannedValues<'a> {
-    /// How the instances of each resource stand together, by the place of its name.
+    /// The instance keys of each resource, by the place of its name.
     pub shapes: &'a [InstanceKeys],
     /// The prior state.
     pub state: &'a State,
@@ -32,17 +32,17 @@ pub struct PlannedValues<'a> {
     pub providers: &'a [Box<dyn Provider + Sync>],
 }
 
-/// What a name stands for, and what is decided of it.
+/// The value of a name, and the decisions about it.
 #[derive(Drop)]
 pub(crate) struct Looked {
-    /// What it stands for; nothing where it isn't wanted.
+    /// Its value, or `Nothing` if it isn't wanted.
     pub(crate) resolved: Resolved,
-    /// What is decided of its instances; nothing where it is a local.
+    /// The decisions about its instances. A local has no decisions.
     pub(crate) decided: Decided,
 }
 
-/// Decides the members of a resource whose block stands, each once: those that the configuration has, by the resource's shape,
-/// and those that the state has of it. What the resource stands for is what was decided of them.
+/// Decides the members of a configured resource, each once: those that the configuration has, by the resource's shape,
+/// and those that the state has of it. The value of the resource follows from these decisions.
 pub(crate) fn decide_block<S: Scope>(
     alloc: Global,
     stage: &PlannedValues<'_>,
@@ -72,7 +72,7 @@ pub(crate) fn decide_block<S: Scope>(
     Ok(Looked { resolved, decided })
 }
 
-/// The members of a resource whose block stands.
+/// Returns the members of a configured resource.
 fn block_members<'a>(
     alloc: Global,
     state: &'a State,

@@ -1,4 +1,4 @@
-//! Whether a prior object fits the schema of its type.
+//! The check that a prior object fits the schema of its type.
 
 ghost use Rattle.std.specs.Prelude.{◌≡◌, fold, map, IfOk, option_map};
 ghost use Rattle.tf_provider_protocol.specs.Schema.{attribute_of};
@@ -18,19 +18,20 @@ use tf_value_data::{Value, find};
 /// How a prior object doesn't fit the schema of its type.
 #[derive(Debug, Drop)]
 pub enum PriorFault {
-    /// As a whole: it was written with another version of the schema, or is no map.
+    /// As a whole: it was written with another version of the schema, or isn't a map.
     Whole,
-    /// At the attribute of this name: the object has it and the schema hasn't, or the other way round; or its value is null
-    /// and required, or not of the attribute's kind.
+    /// At the attribute of this name. Only the object or only the schema has it, or its value is null although it is
+    /// required, or its value isn't of the attribute's kind.
     Attribute(String),
 }
 
-/// What is wrong with a record's object by the schema of its type, if anything is: the version, or else the attribute whose
-/// name is first in byte order, of the schema's and the object's together. A value isn't converted.
+/// Checks a record's object by the schema of its type and returns the first fault, if there is one: the version, or
+/// else the attribute whose name is first in byte order, of the schema's and the object's together. No value is
+/// converted.
 ///
 /// # Errors
 ///
-/// Only where memory runs out.
+/// Fails only if memory runs out.
 pub fn prior_fault(
     alloc: Global,
     schema: &Schema,
@@ -52,7 +53,7 @@ pub fn prior_fault(
     }
 }
 
-/// What is wrong first with the objects of records, one after another.
+/// Returns the first fault of the objects of records, in their order.
 pub(crate) fn first_unfit(
     alloc: Global,
     schema: &Schema,
@@ -68,7 +69,7 @@ pub(crate) fn first_unfit(
     Ok(None)
 }
 
-/// The first name, in byte order, at which an object's entries and the schema don't fit together.
+/// Returns the first name, in byte order, at which an object's entries don't fit the schema.
 fn first_misfit<'a>(schema: &'a Schema, entries: &'a BTreeMap<String, Value>) -> Option<&'a str>
     ensures { option_map (λ s. s.now) result ≡ first_name (all_misfits schema.now (entries_view entries.now.entries)) }
 {
@@ -76,7 +77,7 @@ fn first_misfit<'a>(schema: &'a Schema, entries: &'a BTreeMap<String, Value>) ->
     first_stray(first, schema, entries)
 }
 
-/// The name of the first attribute, in byte order, that an object hasn't or whose value isn't allowed.
+/// Returns the name of the first attribute, in byte order, that an object doesn't have or whose value isn't allowed.
 fn misfit_attribute<'a>(
     attributes: &'a [Attribute],
     entries: &BTreeMap<String, Value>,
@@ -92,7 +93,7 @@ fn misfit_attribute<'a>(
     first
 }
 
-/// The first name, with those of an object's entries that no attribute has.
+/// Returns the first of a name and those of an object's entries that no attribute has.
 fn first_stray<'a>(
     misfit: Option<&'a str>,
     schema: &Schema,
@@ -110,7 +111,7 @@ fn first_stray<'a>(
     first
 }
 
-/// Whether an object has an attribute, with a value that is allowed.
+/// Checks whether an object has an attribute with an allowed value.
 fn has_allowed(entries: &BTreeMap<String, Value>, attribute: &Attribute) -> bool
     ensures { result ≡ has_allowed (entries_view entries.now.entries) (attribute_of attribute.now) }
 {

@@ -1,4 +1,4 @@
-//! What becomes of the members of a resource, each of which is decided once.
+//! The outcomes of a resource's members, each of which is decided once.
 
 ghost use Rattle.std.specs.Prelude.{◌≡◌, IfOk, map, option_map};
 ghost use Rattle.tf_expand_keys.specs.Words.{block_at, addr_of};
@@ -15,18 +15,18 @@ use tf_plan_data::Step;
 use tf_plan_order::InstanceToPlan;
 use tf_provider_protocol::Schema;
 
-/// A member of a resource, and what becomes of it.
+/// A member of a resource, with its outcome.
 #[derive(Drop)]
 pub(crate) struct Settled<'a> {
     /// The number of the member among those of its resource.
     pub(crate) instance: usize,
     /// The member.
     pub(crate) member: &'a InstanceToPlan<'a>,
-    /// What is done, step by step, or why it is refused.
+    /// Its steps, or why it is refused.
     pub(crate) outcome: Result<Vec<Step>, DecisionFault>,
 }
 
-/// What becomes of each member of a resource whose block stands.
+/// Decides each member of a configured resource.
 pub(crate) fn settle<'a, S: Scope>(
     alloc: Global,
     schema: Option<&Schema>,

@@ -1,4 +1,4 @@
-//! What is done to the objects of an instance, step by step.
+//! The steps that are done to the objects of an instance.
 
 ghost use Rattle.std.specs.Prelude.{◌≡◌, ◌++◌, IfOk, OnOk, map, option_map};
 ghost use Rattle.std.specs.List.{flat_map};
@@ -14,8 +14,8 @@ use std::alloc::{AllocError, Global};
 use tf_plan_data::Step;
 use tf_state_data::Record;
 
-/// What a decision about an instance does to its objects: to the current one what is decided, and each deposed one is
-/// destroyed.
+/// Returns the steps of a decision about an instance: what is decided for the current object, and a destroy of each
+/// deposed one.
 pub(crate) fn decided_steps(
     alloc: Global,
     records: &[Record],
@@ -28,7 +28,7 @@ pub(crate) fn decided_steps(
     Ok(steps)
 }
 
-/// The destroys of all objects of an instance.
+/// Returns the destroys of all objects of an instance.
 pub(crate) fn removal_steps(alloc: Global, records: &[Record]) -> Result<Vec<Step>, AllocError>
     ensures { IfOk result (λ steps. steps_of steps.items ≡ removal_steps (map record_of records.now)) }
 {
@@ -40,7 +40,7 @@ pub(crate) fn removal_steps(alloc: Global, records: &[Record]) -> Result<Vec<Ste
     Ok(steps)
 }
 
-/// What a decision does beside the current object.
+/// Returns the steps of a decision for the current object.
 fn current_steps(
     alloc: Global,
     prior: Option<&Record>,
@@ -74,7 +74,7 @@ fn add_deposed(steps: &mut Vec<Step>, records: &[Record]) -> Result<(), AllocErr
     Ok(())
 }
 
-/// Adds the destroy of an object, where it is deposed.
+/// Adds the destroy of an object if it is deposed.
 fn add_if_deposed(steps: &mut Vec<Step>, kept: &Record) -> Result<(), AllocError>
     ensures { OnOk result (steps_of steps.new.items ≡ steps_of steps.old.items ++ deposed_step (record_of kept.now)) }
 {
@@ -84,7 +84,7 @@ fn add_if_deposed(steps: &mut Vec<Step>, kept: &Record) -> Result<(), AllocError
     Ok(())
 }
 
-/// The destroy of an object.
+/// Returns the destroy of an object.
 fn destroy_of(kept: &Record) -> Result<Step, AllocError>
     ensures { IfOk result (λ step. step_of step ≡ destroy_of (record_of kept.now).id.deposed (record_of kept.now).attributes) }
 {

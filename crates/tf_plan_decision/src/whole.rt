@@ -1,4 +1,4 @@
-//! What is decided about all instances.
+//! The decisions about all instances.
 
 ghost use Rattle.std.specs.Prelude.{◌≡◌, ◌≢◌, ◌<◌, ℕ, Contains, if◌then◌else◌, IfOk, None, OnOk, Some, length, map, slice_get};
 ghost use Rattle.tf_config_data.specs.Names.{directly_before, meant_at};
@@ -28,22 +28,22 @@ use tf_expr_syntax::Expr;
 use tf_plan_order::{ResourceIndex, ResourceRef};
 use tf_provider_protocol::Provider;
 
-/// What names stand for, and what is decided of each, by their places.
+/// The values of names, and the decisions about each, by their places.
 #[derive(Drop)]
 pub struct InOrder {
-    /// What each wanted name stands for.
+    /// The value of each wanted name.
     pub resolved_names: Vec<Resolved>,
-    /// What is decided of the instances of each name.
+    /// The decisions about the instances of each name.
     pub rows: Vec<Decided>,
 }
 
-/// Goes over the names of a configuration in the order of their dependence. Each instance is evaluated and decided once, and its
-/// resource stands for what was decided where it is wanted. A block is looked at only where nothing that it needs was refused.
-/// `wanted` says of each place whether it is wanted; with a name all that it needs is, and all that a block needs is.
+/// Decides about the names of a configuration in the order of their dependence. Each instance is evaluated and decided
+/// once, and the value of a wanted resource follows from these decisions. A block is decided only if nothing that it
+/// needs was refused. `wanted` marks places. It has to mark all that a marked name needs, and all that a block needs.
 ///
 /// # Errors
 ///
-/// Only where memory runs out.
+/// Fails only if memory runs out.
 pub fn decide_in_order(
     alloc: Global,
     stage: &PlannedValues<'_>,
@@ -66,7 +66,7 @@ pub fn decide_in_order(
     )
 }
 
-/// The same, of the names in a list in which each stands after all that it needs.
+/// Decides about the names in a list in which each comes after all that it needs.
 fn decide_along(
     alloc: Global,
     stage: &PlannedValues<'_>,
@@ -98,7 +98,7 @@ fn decide_along(
     })
 }
 
-/// As many places, of none of which anything is decided.
+/// Returns `count` places without decisions.
 fn no_rows(alloc: Global, count: usize) -> Result<Vec<Decided>, AllocError>
     ensures { IfOk result (λ rows. length rows.items ≡ count) }
 {
@@ -109,7 +109,7 @@ fn no_rows(alloc: Global, count: usize) -> Result<Vec<Decided>, AllocError>
     Ok(rows)
 }
 
-/// What the name at a place stands for, and what is decided of it, by what names stand for so far: nothing where something that
+/// Resolves the name at a place and decides about it, by the names resolved so far. Returns nothing if something that
 /// it needs was refused.
 fn look_at(
     alloc: Global,
@@ -154,7 +154,7 @@ fn look_at(
     }
 }
 
-/// Nothing stands there, and nothing is decided.
+/// Returns no value and no decisions.
 fn nothing_looked_at(alloc: Global) -> Looked
     ensures resolved { resolved_of result.resolved ≡ None }
     ensures decided { decided_of result.decided ≡ nothing_decided }
@@ -165,7 +165,7 @@ fn nothing_looked_at(alloc: Global) -> Looked
     }
 }
 
-/// What a local stands for. It has no instances, and isn't evaluated where it isn't wanted.
+/// Resolves a local. It has no instances, and it isn't evaluated if it isn't wanted.
 fn look_at_local<S: Scope>(
     alloc: Global,
     expr: &Expr,
@@ -184,12 +184,12 @@ fn look_at_local<S: Scope>(
     })
 }
 
-/// Moves together what was decided, in the order of places, each of which stands there once: of the names what was decided of
-/// each, and of the orphans that they are destroyed or refused.
+/// Collects the decisions in the order of places, each of which occurs once. It moves the decisions about names, and
+/// decides that orphans are destroyed or refused.
 ///
 /// # Errors
 ///
-/// Only where memory runs out.
+/// Fails only if memory runs out.
 pub fn gather(
     alloc: Global,
     rows: Vec<Decided>,
@@ -215,7 +215,7 @@ pub fn gather(
     Ok(decided)
 }
 
-/// Adds what is decided of what stands at a place, where something does.
+/// Adds the decisions about the name or orphan at a place, if there is one.
 fn add_place(
     alloc: Global,
     decided: &mut Decided,
@@ -237,7 +237,7 @@ fn add_place(
     }
 }
 
-/// Takes out what was decided at a place.
+/// Takes out the decisions at a place.
 fn take_row(alloc: Global, rows: &mut Vec<Decided>, place: usize) -> Decided
     ensures taken { decided_of result ≡ rows_of rows.old.items place }
     ensures others { (n : ℕ) → n ≢ place → rows_of rows.new.items n ≡ rows_of rows.old.items n }

@@ -1,4 +1,4 @@
--- What an argument gives the attribute that it names.
+-- The value that an argument gives the attribute that it names.
 use Rattle.std.specs.Prelude.{if◌then◌else◌, codes, Option, Some, None, Result, Ok, Err}
 use Rattle.std.specs.Fmt.{signed_decimal}
 use Rattle.tf_value_data.specs.Sets.{with_lists}
@@ -20,12 +20,12 @@ abbrev pub evaluated : Answer → Result Tree ArgumentFault
 evaluated (Ok t) = Ok t
 evaluated (Err why) = Err (Evaluation why)
 
--- An argument stands for the value of its expression, by what its references stand for.
+-- An argument's value is that of its expression, by the values of its references.
 abbrev pub argument_value : Environment → expr.Tree → Result Tree ArgumentFault
 argument_value env e = evaluated (meaning env e)
 
--- An attribute takes values of its kind, and a value that isn't known yet. One of kind String takes whole
--- numbers and truth values too, as their texts, and one of kind Any a set, at any depth, as the list of its texts.
+-- An attribute takes values of its kind, and a value that isn't known yet. An attribute of kind String also takes whole
+-- numbers and truth values, as their texts. One of kind Any takes a set, at any depth, as the list of its texts.
 abbrev pub converted : Kind → Tree → Option Tree
 converted kinds.Any t = Some (with_lists t)
 converted kinds.String unknown = Some unknown
@@ -40,8 +40,8 @@ converted kinds.Bool unknown = Some unknown
 converted kinds.Bool (boolean b) = Some (boolean b)
 converted kinds.Bool _ = None
 
--- What an attribute has in a create where no argument sets it: null, or a value that the provider makes.
--- A required one has to be set.
+-- The value of an attribute in a create if no argument sets it: null, or unknown if the provider makes it. A required
+-- attribute has to be set.
 abbrev pub unset_value : Mode → Result Tree ArgumentFault
 unset_value modes.Required = Err BadArgument
 unset_value modes.Optional = Ok null
@@ -51,7 +51,7 @@ abbrev pub or_bad_argument : Option Tree → Result Tree ArgumentFault
 or_bad_argument None = Err BadArgument
 or_bad_argument (Some t) = Ok t
 
--- A value that is set goes to the attribute's kind; a computed attribute can't be set.
+-- A value that is set is converted to the attribute's kind. A computed attribute can't be set.
 abbrev pub set_value : Mode → Kind → Tree → Result Tree ArgumentFault
 set_value modes.Computed kind t = Err BadArgument
 set_value _ kind t = or_bad_argument (converted kind t)
@@ -65,7 +65,7 @@ abbrev pub result_then : {A B : Type 0} → (A → Result B ArgumentFault) → R
 result_then f (Ok a) = f a
 result_then f (Err e) = Err e
 
--- an attribute's planned value in a create, with the argument that names it
+-- an attribute's planned value in a create, from the argument that names it, if there is one
 abbrev pub attribute_value : Environment → AttributeView → Option expr.Tree → Result Tree ArgumentFault
 attribute_value env a None = unset_value a.mode
 attribute_value env a (Some e) = result_then (given_value a.mode a.kind) (argument_value env e)

@@ -13,7 +13,7 @@ use Rattle.tf_plan_object.specs.Planned.{NamedFaultView, planned_object}
 use Rattle.tf_plan_object.specs.declared.instance.InstanceFault.{InstanceFault}
 use Rattle.tf_plan_object.specs.declared.instance.InstanceFault.TheVariants.{ForEach, Argument}
 
--- What is wrong with an instance: `for_each` gives it no value, or an argument is bad.
+-- The fault of an instance: `for_each` gives it no value, or an argument is bad.
 pub data InstanceFaultView : Type 0 where
   for_each_fault : EvalFault → InstanceFaultView
   argument_fault : NamedFaultView → InstanceFaultView
@@ -22,23 +22,23 @@ abbrev pub instance_fault_of : InstanceFault → InstanceFaultView
 instance_fault_of (ForEach why) = for_each_fault why
 instance_fault_of (Argument name fault) = argument_fault (string_bytes name, fault)
 
--- an instance's object, or the fault in its place
+-- an instance's object, or its fault
 abbrev pub instance_of : Result Value InstanceFault → Result Tree InstanceFaultView
 instance_of (Ok v) = Ok (tree_of v)
 instance_of (Err why) = Err (instance_fault_of why)
 
--- an object, or what is wrong with an argument of the instance
+-- an object, or the fault of an argument of the instance
 abbrev pub or_argument_fault : Result Tree NamedFaultView → Result Tree InstanceFaultView
 or_argument_fault (Ok t) = Ok t
 or_argument_fault (Err named) = Err (argument_fault named)
 
--- the object of arguments that see so much, or the fault of what they would see
+-- the object of arguments in an environment, or the fault of that environment
 abbrev pub object_in : SchemaView → expr.Entries → Result Environment EvalFault → Result Tree InstanceFaultView
 object_in schema arguments (Err why) = Err (for_each_fault why)
 object_in schema arguments (Ok env) = or_argument_fault (planned_object schema env arguments)
 
--- The object of an instance of a block: what the schema makes of its arguments, in which `count.index`, `each.key` and
+-- The object of an instance of a block: that of its arguments by the schema, in which `count.index`, `each.key` and
 -- `each.value` are those of the instance. `for_each` is evaluated again for each instance, and its fault comes before
--- all faults of arguments, also where nothing names `each.value`.
+-- all faults of arguments, even if nothing names `each.value`.
 abbrev pub instance_object : SchemaView → BlockView → InstanceKeyView → Environment → Result Tree InstanceFaultView
 instance_object schema block key env = object_in schema block.arguments (instance_environment block.repetition key env)

@@ -1,4 +1,4 @@
--- The object of an instance that keeps what it is not asked to change.
+-- The object that an update asks for: it keeps the prior values that aren't to be changed.
 use Rattle.std.specs.Prelude.{ℕ, Bool, true, false, ◌||◌, if◌then◌else◌, List}
 use Rattle.std.specs.List.{list_any}
 use Rattle.std.specs.Option.{option_map_or, unwrap_or}
@@ -21,11 +21,11 @@ names_computed schema name = option_map_or (λ a. is_computed a.mode) (attribute
 abbrev pub is_ignored : List (List ℕ) → List ℕ → Bool
 is_ignored ignored name = list_any (λ other. bytes_eq other name) ignored
 
--- An attribute keeps its value where the provider sets it, or its changes are ignored.
+-- An attribute keeps its value if the provider sets it, or if its changes are ignored.
 abbrev pub is_kept : SchemaView → List (List ℕ) → List ℕ → Bool
 is_kept schema ignored name = names_computed schema name || is_ignored ignored name
 
--- an attribute's value beside a prior object: the prior one where it is kept, else what is planned
+-- an attribute's value if there is a prior object: the prior value if it is kept, else the planned one
 abbrev pub kept_value : SchemaView → List (List ℕ) → Tree → List ℕ → Tree → Tree
 kept_value schema ignored prior name planned = if is_kept schema ignored name then unwrap_or (part_at name prior) planned else planned
 
@@ -33,7 +33,7 @@ abbrev pub kept_entries : SchemaView → List (List ℕ) → Tree → Entries �
 kept_entries schema ignored prior no_entries = no_entries
 kept_entries schema ignored prior (entry name planned es) = entry name (kept_value schema ignored prior name planned) (kept_entries schema ignored prior es)
 
--- The planned object of an instance with the prior value of each attribute that is kept: what an update asks for.
+-- The planned object of an instance with the prior value of each attribute that is kept. An update asks for it.
 abbrev pub kept_object : SchemaView → List (List ℕ) → Tree → Tree → Tree
 kept_object schema ignored prior (map es) = map (kept_entries schema ignored prior es)
 kept_object schema ignored prior t = t

@@ -1,4 +1,4 @@
--- What holds of planned objects, whatever references stand for.
+-- What holds of planned objects, for any values of references.
 use Rattle.std.specs.Prelude.{◌≡◌, true, Some, Ok}
 use Rattle.tf_config_address.specs.ObjectId.{InstanceKeyView}
 use Rattle.tf_config_data.specs.Config.{BlockView}
@@ -19,12 +19,12 @@ InstancesAreLocal =
     (schema : SchemaView) (block : BlockView) (key : InstanceKeyView) (one other : Environment) → AgreeOn one other (block_refers block)
     → instance_object schema block key one ≡ instance_object schema block key other
 
--- Where a value refines to another and both are converted to a kind, the first result refines to the second.
+-- If a value refines to another and both are converted to a kind, the first result refines to the second.
 abbrev pub ConversionGrows : Type 0
 ConversionGrows = (kind : Kind) (t u v w : Tree) → Refines t u → converted kind t ≡ Some v → converted kind u ≡ Some w → Refines v w
 
--- Where an environment refines to another and an instance has an object in both, the first object refines to the second.
--- So a value that is known in the first stands in the second too.
+-- If an environment refines to another and an instance has an object in both, the first object refines to the second.
+-- So a value that is known in the first is the same in the second.
 abbrev pub InstancesGrow : Type 0
 InstancesGrow =
     (schema : SchemaView) (block : BlockView) (key : InstanceKeyView) (one other : Environment) (t u : Tree) → RefinesTo one other

@@ -1,4 +1,4 @@
--- What is planned of arguments: an object, or the first thing that is wrong with them.
+-- What is planned for arguments: an object, or the first fault in them.
 use Rattle.std.specs.Prelude.{ℕ, if◌then◌else◌, List, [], ◌∷◌, ◌++◌, fold, is_some, Option, Some, None, Result, Ok, Err}
 use Rattle.tf_expr_syntax.specs.ExprTree as expr
 use Rattle.tf_expr_eval.specs.Environment.{Environment}
@@ -12,7 +12,7 @@ use Rattle.tf_plan_object.specs.declared.argument.ArgumentFault.TheVariants.{Bad
 abbrev pub NamedFaultView : Type 0
 NamedFaultView = List ℕ × ArgumentFault
 
--- an attribute's fault, where its planned value has one
+-- an attribute's fault, if its planned value has one
 abbrev pub fault_at : List ℕ → Result Tree ArgumentFault → List NamedFaultView
 fault_at name (Ok t) = []
 fault_at name (Err fault) = (name, fault) ∷ []
@@ -22,7 +22,7 @@ abbrev pub attribute_faults : List AttributeView → Environment → expr.Entrie
 attribute_faults [] env arguments = []
 attribute_faults (a ∷ others) env arguments = fault_at a.name (attribute_value env a (expr.get a.name arguments)) ++ attribute_faults others env arguments
 
--- An argument that names no attribute is a bad one, whatever its value; it isn't evaluated.
+-- An argument that names no attribute is a bad one, whatever its value. It isn't evaluated.
 abbrev pub stray_faults : SchemaView → expr.Entries → List NamedFaultView
 stray_faults schema expr.no_entries = []
 stray_faults schema (expr.entry name value arguments) =
@@ -37,11 +37,11 @@ sooner (Some old) new = if is_below new.0 old.0 then Some new else Some old
 abbrev pub first_of_faults : List NamedFaultView → Option NamedFaultView
 first_of_faults faults = fold sooner None faults
 
--- the first thing that is wrong with arguments, by the name of the attribute
+-- the first fault of arguments, by the name of the attribute
 abbrev pub first_fault : SchemaView → Environment → expr.Entries → Option NamedFaultView
 first_fault schema env arguments = first_of_faults (attribute_faults schema.attributes env arguments ++ stray_faults schema arguments)
 
--- the entries with an attribute's value in front, where it has one
+-- the entries with an attribute's value in front, if it has one
 abbrev pub with_value : List ℕ → Result Tree ArgumentFault → Entries → Entries
 with_value name (Ok t) es = entry name t es
 with_value name (Err fault) es = es
@@ -56,7 +56,7 @@ abbrev pub unless_fault : Option NamedFaultView → Tree → Result Tree NamedFa
 unless_fault None t = Ok t
 unless_fault (Some fault) t = Err fault
 
--- The object that a schema makes of arguments where references stand for what the environment says: the planned value
--- of each attribute. Or the first thing that is wrong with the arguments.
+-- The object of arguments by a schema in an environment: the planned value of each attribute. Or the first fault in the
+-- arguments.
 abbrev pub planned_object : SchemaView → Environment → expr.Entries → Result Tree NamedFaultView
 planned_object schema env arguments = unless_fault (first_fault schema env arguments) (map (planned_entries schema.attributes env arguments))

@@ -1,4 +1,4 @@
-//! What an argument gives the attribute that it names.
+//! The value that an argument gives the attribute that it names.
 
 ghost use Rattle.std.specs.Fmt.{signed_decimal};
 ghost use Rattle.std.specs.Prelude.{◌≡◌, true, IfOk, option_map, string_bytes};
@@ -16,7 +16,7 @@ use tf_expr_syntax::Expr;
 use tf_provider_protocol::{Attribute, Kind, Mode};
 use tf_value_data::{Value, with_lists};
 
-/// What is wrong with an argument, or with an attribute that no argument sets.
+/// The fault of an argument, or of an attribute that no argument sets.
 #[derive(Clone, Copy, Debug, PartialEq, Eq)]
 pub enum ArgumentFault {
     /// Its expression has no value.
@@ -25,10 +25,10 @@ pub enum ArgumentFault {
     BadArgument,
 }
 
-/// Why an argument gives no value: a fault, or want of memory.
+/// Why an argument gives no value: a fault, or out of memory.
 #[derive(Clone, Copy, Debug, PartialEq, Eq)]
 pub enum ValueFault {
-    /// There was no memory.
+    /// Memory ran out.
     OutOfMemory,
     /// The argument has a fault.
     Argument(ArgumentFault),
@@ -42,13 +42,13 @@ impl From<AllocError> for ValueFault {
     }
 }
 
-/// An attribute's planned value in a create, with the argument that names it, if there is one, where references stand
-/// for what the scope says.
+/// Returns an attribute's planned value in a create, from the argument that names it, if there is one, evaluated in the
+/// scope.
 ///
 /// # Errors
 ///
-/// The fault of the argument's evaluation; `BadArgument` where a required attribute isn't set, a computed one is, or
-/// the value isn't of the attribute's kind; and `OutOfMemory`.
+/// Fails with the fault of the argument's evaluation, with `BadArgument` if a required attribute isn't set, a computed
+/// one is set, or the value isn't of the attribute's kind, and with `OutOfMemory`.
 pub fn attribute_value<S: Scope>(
     alloc: Global,
     attribute: &Attribute,
@@ -68,7 +68,7 @@ pub fn attribute_value<S: Scope>(
     }
 }
 
-/// The value that an argument stands for.
+/// Evaluates an argument.
 fn argument_value<S: Scope>(alloc: Global, expr: &Expr, scope: &S) -> Result<Value, ValueFault>
     ensures gives { Gives tree_of result (argument_value (S.environment scope.now) (expr_of expr.now)) }
     ensures within { IfOk result (λ v. is_within (tree_of v) ≡ true) }
@@ -81,7 +81,7 @@ fn argument_value<S: Scope>(alloc: Global, expr: &Expr, scope: &S) -> Result<Val
     }
 }
 
-/// The value of an attribute that isn't set.
+/// Returns the value of an attribute that isn't set. Fails with `BadArgument` if the attribute is required.
 fn unset_value(mode: Mode) -> Result<Value, ValueFault>
     ensures gives { Gives tree_of result (unset_value mode) }
     ensures within { IfOk result (λ v. may_be_planned (tree_of v) ≡ true) }
@@ -93,7 +93,7 @@ fn unset_value(mode: Mode) -> Result<Value, ValueFault>
     }
 }
 
-/// The value of an attribute whose argument has this value; null means that it isn't set.
+/// Returns the value of an attribute whose argument has this value. Null means that it isn't set.
 fn given_value(alloc: Global, mode: Mode, kind: Kind, value: Value) -> Result<Value, ValueFault>
     ensures gives { Gives tree_of result (given_value mode kind (tree_of value)) }
     ensures within { is_within (tree_of value) ≡ true → IfOk result (λ v. may_be_planned (tree_of v) ≡ true) }
@@ -104,7 +104,7 @@ fn given_value(alloc: Global, mode: Mode, kind: Kind, value: Value) -> Result<Va
     }
 }
 
-/// The value of an attribute that is set.
+/// Returns the value of an attribute that is set. Fails with `BadArgument` if the attribute is computed.
 fn set_value(alloc: Global, mode: Mode, kind: Kind, value: Value) -> Result<Value, ValueFault>
     ensures gives { Gives tree_of result (set_value mode kind (tree_of value)) }
     ensures within { is_within (tree_of value) ≡ true → IfOk result (λ v. may_be_planned (tree_of v) ≡ true) }
@@ -116,7 +116,7 @@ fn set_value(alloc: Global, mode: Mode, kind: Kind, value: Value) -> Result<Valu
     }
 }
 
-/// A value as one of this kind; of kind `Any`, with the list of its texts for each set.
+/// Converts a value to a kind. For the kind `Any`, each set becomes the list of its texts.
 #[tactic(auto, using(crate::proofs::Within::lists_planned))]
 fn converted(alloc: Global, kind: Kind, value: Value) -> Result<Value, ValueFault>
     ensures gives { Gives tree_of result (or_bad_argument (converted kind (tree_of value))) }

@@ -15,28 +15,28 @@ use tf_expr_eval::{EvalFault, Scope};
 use tf_provider_protocol::Schema;
 use tf_value_data::Value;
 
-/// What is wrong with an instance.
+/// The fault of an instance.
 #[derive(Debug, Drop)]
 pub enum InstanceFault {
-    /// `for_each`, which is evaluated again for each instance, has no value, or none under the instance's key; or a
-    /// `count` numbers the instance beyond the whole numbers.
+    /// `for_each`, which is evaluated again for each instance, has no value, or its value has nothing under the
+    /// instance's key. Or the instance's number exceeds the whole numbers.
     ForEach(EvalFault),
     /// The attribute whose name is first in byte order among those with a fault.
     Argument {
-        /// The attribute, or the argument that names none.
+        /// The attribute, or the argument that names no attribute.
         name: String,
-        /// What is wrong with it.
+        /// Its fault.
         fault: ArgumentFault,
     },
 }
 
-/// Plans the object of an instance by its type's schema, where references stand for what the scope says, and
-/// `count.index`, `each.key` and `each.value` are those of the instance. Or the fault of `for_each`, also where nothing
-/// names `each.value`; else the first fault of the arguments.
+/// Plans the object of an instance by its type's schema. References have the scope's values, and `count.index`,
+/// `each.key` and `each.value` are those of the instance. If `for_each` has a fault, returns that fault, even if
+/// nothing names `each.value`. Otherwise returns the first fault of the arguments, if there is one.
 ///
 /// # Errors
 ///
-/// Only where memory runs out.
+/// Fails only if memory runs out.
 pub fn plan_instance<S: Scope>(
     alloc: Global,
     schema: &Schema,

@@ -1,4 +1,4 @@
-//! The object of an instance that keeps what it is not asked to change.
+//! The object that an update asks for: it keeps the prior values that aren't to be changed.
 
 ghost use Rattle.std.specs.Prelude.{◌≡◌, IfOk, map, string_bytes};
 ghost use Rattle.tf_value_data.specs.Tree.{tree_of, entries_view};
@@ -9,12 +9,12 @@ use std::collections::BTreeMap;
 use tf_provider_protocol::{Mode, Schema};
 use tf_value_data::Value;
 
-/// The planned object with the prior value of each attribute that is kept: those that the provider sets, and those whose
-/// changes are ignored. It is what an update asks for.
+/// Returns the planned object with the prior value of each attribute that is kept: those that the provider sets, and
+/// those whose changes are ignored. An update asks for this object.
 ///
 /// # Errors
 ///
-/// Only where memory runs out.
+/// Fails only if memory runs out.
 pub fn kept_object(
     alloc: Global,
     schema: &Schema,
@@ -51,7 +51,7 @@ fn kept_entries(
     Ok(kept)
 }
 
-/// The prior value of an attribute that is kept, else what is planned.
+/// Returns the prior value of an attribute that is kept, or else its planned value.
 fn kept_value<'a>(
     schema: &Schema,
     ignored: &[String],
@@ -77,7 +77,7 @@ fn is_kept(schema: &Schema, ignored: &[String], name: &str) -> bool
     names_computed(schema, name) || is_ignored(ignored, name)
 }
 
-/// Whether a name is that of an attribute that the provider sets.
+/// Checks whether a name is that of an attribute that the provider sets.
 fn names_computed(schema: &Schema, name: &str) -> bool
     ensures { result ≡ names_computed schema.now name.now }
 {
@@ -87,7 +87,7 @@ fn names_computed(schema: &Schema, name: &str) -> bool
     }
 }
 
-/// Whether the changes of an attribute are ignored.
+/// Checks whether the changes of an attribute are ignored.
 fn is_ignored(ignored: &[String], name: &str) -> bool
     ensures { result ≡ is_ignored (map string_bytes ignored.now) name.now }
 {

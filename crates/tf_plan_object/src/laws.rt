@@ -7,15 +7,15 @@ use tf_expand_keys::standing_laws::instances_stay;
 use tf_expr_eval::{expr_knowledge_grows, meaning_is_local};
 use tf_value_data::{lists_stand_for_sets, refinement_is_an_order};
 
-/// What a block refers to decides the object, or the fault, of each of its instances.
+/// What a block refers to determines the object, or the fault, of each of its instances.
 pub fn objects_are_local()
     ensures { InstancesAreLocal }
 {
     meaning_is_local();
 }
 
-/// What is known of an object only grows. Where what references stand for refines, so does a converted value, and so do
-/// the objects of instances.
+/// Knowledge of an object only grows. If the values of references refine, so does a converted value, and so do the
+/// objects of instances.
 pub fn objects_grow()
     ensures conversion { ConversionGrows }
     ensures instances { InstancesGrow }
@@ -31,15 +31,16 @@ pub fn objects_have_attributes()
     ensures { InstancesHaveAttributes }
 {}
 
-/// An update's object has at each name the planned value, or the prior one where it is kept; so it has each configured value
-/// of an attribute whose changes aren't ignored, and exactly the attributes of the planned object.
+/// An update's object has at each name the planned value, or the prior one if that is kept. So it has each configured
+/// value of an attribute whose changes aren't ignored, and exactly the attributes of the planned object.
 pub fn updates_keep_what_is_configured()
     ensures values { UpdatesKeep }
     ensures arguments { UpdatesHaveArguments }
     ensures attributes { UpdatesHaveAttributes }
 {}
 
-/// Where what is planned refines to what is planned once more is known, so does the object that an update asks for.
+/// If a planned object refines to the one that is planned when more is known, so does the object that an update asks
+/// for.
 pub fn updates_grow()
     ensures { UpdatesGrow }
 {}

@@ -1,4 +1,4 @@
-//! The object that is planned of arguments, or the first thing that is wrong with them.
+//! The object that is planned for arguments, or the first fault in them.
 
 ghost use Rattle.std.specs.Prelude.{◌≡◌, true, Result, IfOk, fold, map, option_map};
 ghost use Rattle.tf_expand_keys.specs.Words.{entries_view, get, may_be_planned, Tree, tree_of};
@@ -19,13 +19,13 @@ use tf_expr_syntax::{Expr, find};
 use tf_provider_protocol::{Attribute, Schema};
 use tf_value_data::Value;
 
-/// Plans the object of arguments by a type's schema, where references stand for what the scope says: with unknown values
-/// where the provider decides. Or the name that is first in byte order among those of attributes with a fault, and of
-/// arguments that name no attribute, with what is wrong there.
+/// Plans the object of arguments by a type's schema, in a scope. A value that the provider decides is unknown. If
+/// attributes have faults, or arguments name no attribute, returns the first of their names in byte order with its
+/// fault.
 ///
 /// # Errors
 ///
-/// Only where memory runs out.
+/// Fails only if memory runs out.
 pub fn plan_object<S: Scope>(
     alloc: Global,
     schema: &Schema,
@@ -47,7 +47,7 @@ pub fn plan_object<S: Scope>(
 #[derive(Drop)]
 struct Tried {
     object: BTreeMap<String, Value>,
-    /// With the name of what has it.
+    /// The fault with the name of the attribute.
     fault: Option<(String, ArgumentFault)>,
 }
 
@@ -76,7 +76,7 @@ fn try_attributes<S: Scope>(
     Ok(tried)
 }
 
-/// The argument of a name, if there is one.
+/// Returns the argument of a name, if there is one.
 fn argument_named<'a>(arguments: &'a BTreeMap<String, Expr>, name: &str) -> Option<&'a Expr>
     ensures { option_map (λ e. expr_of e.now) result ≡ get name.now (arguments_view arguments.now.entries) }
 {
@@ -110,7 +110,7 @@ fn add_value(
     }
 }
 
-/// The first fault, with those of the arguments that name no attribute.
+/// Returns the first of a fault and those of the arguments that name no attribute.
 fn add_strays(
     alloc: Global,
     first: Option<(String, ArgumentFault)>,
@@ -129,7 +129,7 @@ fn add_strays(
     Ok(fault)
 }
 
-/// The one of two faults whose name is first in byte order.
+/// Returns the one of two faults whose name is first in byte order.
 fn first_of(
     alloc: Global,
     old: Option<(String, ArgumentFault)>,

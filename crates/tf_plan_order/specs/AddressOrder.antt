@@ -8,11 +8,11 @@ use Rattle.std.specs.declared.cmp.Ordering.{Ordering}
 use Rattle.tf_config_address.specs.ResourceAddr.{ResourceAddrView, addr_cmp}
 use Rattle.tf_plan_order.specs.ResourceIndex.{ResourceRefView, address_of}
 
--- the address of the resource at a place; a local has none, and past the end there is none
+-- the address of the resource at a place; `None` for a local and past the end
 abbrev pub address_at : List ResourceRefView → ℕ → Option ResourceAddrView
 address_at all n = option_and_then address_of (slice_get all n)
 
--- a resource, which is a block or an orphan, stands at a place
+-- a resource, which is a block or an orphan, is at a place
 abbrev pub is_resource : List ResourceRefView → ℕ → Bool
 is_resource all n = is_some (address_at all n)
 
@@ -20,7 +20,7 @@ is_resource all n = is_some (address_at all n)
 abbrev pub resource_places : List ResourceRefView → List ℕ
 resource_places all = filter (is_resource all) (range_with_len 0 (length all))
 
--- places stand to one another as the addresses there do
+-- the comparison of two places is that of the addresses there
 abbrev pub address_cmp : List ResourceRefView → ℕ → ℕ → Ordering
 address_cmp all a b = option_cmp addr_cmp (address_at all a) (address_at all b)
 
@@ -28,8 +28,8 @@ address_cmp all a b = option_cmp addr_cmp (address_at all a) (address_at all b)
 abbrev pub is_below : List ResourceRefView → ℕ → ℕ → Bool
 is_below all a b = is_lt (address_cmp all a b)
 
--- Places are those of the resources in address order: each resource's, once, and none behind one whose address comes after
--- its own.
+-- Places are those of the resources in address order: each resource's, once, and none after one whose address comes
+-- after its own.
 pub record AreInAddressOrder (all : List ResourceRefView) (places : List ℕ) : Type 0 where
   pub each : IsPermutation (resource_places all) places
   pub sorted : IsSortedBy (is_below all) places

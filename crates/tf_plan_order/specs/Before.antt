@@ -35,7 +35,7 @@ pub data Before (t : OrderInputView) : OrderedAction → OrderedAction → Type 
   -- a late object is destroyed after all that needs it, or needed it, is created or updated
   dependent_applied_first : (a b : OrderedAction) → IsApply a → IsDestroy b → t.late b.resource ≡ true → (t.needs a.resource b.resource ≡ true) ⊎ (t.needed a.resource b.resource ≡ true) → Before t a b
 
--- The same as a test.
+-- ---- the same relation as a computable test
 
 -- whether two actions are the halves of one replace
 abbrev pub are_halves : OrderedAction → OrderedAction → Bool

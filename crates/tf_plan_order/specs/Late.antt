@@ -9,7 +9,7 @@ use Rattle.tf_graph.specs.Path.{Path, Reaches}
 abbrev pub Leads : Digraph → Digraph → ℕ → ℕ → Type 0
 Leads needs needed a b = Reaches needs b a ⊎ Reaches needed b a
 
--- A resource is late where it is marked, or one that is marked leads to it over both together.
+-- A resource is late if it is marked, or if a marked one leads to it over both graphs together.
 abbrev pub IsLate : Digraph → Digraph → List Bool → ℕ → Type 0
 IsLate needs needed marked n = (m : ℕ) × (has marked m ≡ true) × ((m ≡ n) ⊎ Path (Leads needs needed) m n)
 

@@ -12,7 +12,7 @@ use Rattle.tf_plan_order.specs.declared.action.ActionKind.{ActionKind}
 use Rattle.tf_plan_order.specs.declared.action.ActionKind.TheVariants.{Apply, Destroy, DestroyDeposed}
 use Rattle.tf_plan_order.specs.declared.order_input.OrderInput.{OrderInput}
 
--- The test is true exactly where the one is before the other.
+-- The test is true exactly if the one is before the other.
 abbrev pub BeforeIsTested : Type 0
 BeforeIsTested = (t : OrderInputView) (x y : OrderedAction) → (is_before t x y ≡ true) ↔ Before t x y
 
@@ -35,25 +35,26 @@ stage t x = stage_by x.kind (t.late x.resource)
 abbrev pub StagesNeverFall : Type 0
 StagesNeverFall = (t : OrderInputView) → AreSound t → (x y : OrderedAction) → Before t x y → stage t x ≤ stage t y
 
--- Within a stage, before is a strict order.
+-- Within a stage, *before* is a strict order.
 abbrev pub StageIsStrict : Type 0
 StageIsStrict =
     (t : OrderInputView) → AreSound t
     → ((x : OrderedAction) → Before t x x → ⊥)
     × ((x y z : OrderedAction) → stage t x ≡ stage t y → stage t y ≡ stage t z → Before t x y → Before t y z → Before t x z)
 
--- The list of pairs holds exactly those of which the first is before the second, and each once.
+-- The list of pairs holds exactly those whose first is before the second, and each once.
 abbrev pub PairsAreThose : Type 0
 PairsAreThose =
     (t : OrderInputView) (actions : List OrderedAction)
     → ((a b : ℕ) → Contains (pairs t actions) (a, b) ↔ ((a < length actions) × (b < length actions) × Before t (action_at actions a) (action_at actions b)))
     × ((i j : ℕ) → i < j → j < length (pairs t actions) → edge_at (pairs t actions) i ≢ edge_at (pairs t actions) j)
 
--- Where no node of a graph reaches itself, what its closure says is a strict order.
+-- If no node of a graph reaches itself, its closure is a strict order.
 abbrev pub AcyclicIsStrict : Type 0
 AcyclicIsStrict = (g : Digraph) (table : Table) → IsAcyclic g → IsClosure g table → IsStrict (λ a b. reaches table b a)
 
--- Ties are sound where by the configuration nothing needs itself, whatever the state has stored and whatever is marked.
+-- The order's input is sound if nothing needs itself by the configuration, whatever the state has stored and whatever
+-- is marked.
 abbrev pub OrderInputIsSound : Type 0
 OrderInputIsSound =
     (needs needed : Digraph) (marked : List Bool) (t : OrderInput)

@@ -9,8 +9,8 @@ abbrev pub says_so : Meant → Bool
 says_so (a_local e) = false
 says_so (a_block b) = b.lifecycle.create_before_destroy
 
--- A resource is marked where its block says `create_before_destroy`, whatever its records say. Where the block is gone, it
--- is marked where the record of any of its objects says so, current or deposed.
+-- A resource with a block is marked if its block says `create_before_destroy`, whatever its records say. An orphan is
+-- marked if the record of any of its objects says so, current or deposed.
 abbrev pub is_marked : ResourceRefView → Bool
 is_marked (a_name n) = says_so n.meant
 is_marked (an_orphan r) = list_any (λ x. x.create_before_destroy) r.records

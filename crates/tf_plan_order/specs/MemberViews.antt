@@ -1,4 +1,4 @@
--- Members without where they lie in memory.
+-- Members as plain data.
 use Rattle.std.specs.Prelude.{List, map}
 use Rattle.std.specs.BTreeSet.{BTreeSet}
 use Rattle.tf_config_address.specs.ObjectId.{InstanceKeyView, instance_key_of}

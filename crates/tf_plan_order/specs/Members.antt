@@ -1,4 +1,4 @@
--- The instances of a resource, by its configuration and by what its state has, together.
+-- The instances of a resource, from the configuration and the state together.
 use Rattle.std.specs.Prelude.{◌≡◌, Bool, true, ◌||◌, List, [], map, filter, fold, Contains}
 use Rattle.std.specs.BTreeSet.{insert_key}
 use Rattle.std.specs.List.{list_any}
@@ -17,7 +17,7 @@ pub record InstanceToPlanView : Type 0 where
 abbrev pub is_among : List InstanceKeyView → InstanceKeyView → Bool
 is_among keys key = list_any (λ other. same_instance_key other key) keys
 
--- a record is of an object of an instance
+-- a record belongs to an object of an instance
 abbrev pub is_of : InstanceKeyView → RecordView → Bool
 is_of key r = same_instance_key r.id.key key
 
@@ -29,29 +29,29 @@ records_of key records = filter (is_of key) records
 abbrev pub is_recorded : List RecordView → InstanceKeyView → Bool
 is_recorded records key = list_any (is_of key) records
 
--- the instances that members are
+-- the keys of members
 abbrev pub keys_of : List InstanceToPlanView → List InstanceKeyView
 keys_of members = map (λ m. m.key) members
 
--- The members of a resource, of which the configuration has the instances of some keys and the state has some records: all
--- instances of both, each once, in address order.
+-- The members of a resource for which the configuration has instances with the given keys and the state the given
+-- records: all instances of both, each once, in address order.
 pub record AreMembers (keys : List InstanceKeyView) (records : List RecordView) (members : List InstanceToPlanView) : Type 0 where
-  -- they stand in address order, each once
+  -- they are in address order, each once
   pub sorted : IsStrictlySortedBy instance_key_cmp (keys_of members)
-  -- an instance is there exactly where the configuration has it, or there is a record of it
+  -- an instance is a member exactly if the configuration has it, or there is a record of it
   pub there : (key : InstanceKeyView) → is_among (keys_of members) key ≡ (is_among keys key || is_recorded records key)
-  -- each says exactly whether the configuration has it
+  -- each says correctly whether the configuration has it
   pub declared : (m : InstanceToPlanView) → Contains members m → m.is_declared ≡ is_among keys m.key
   -- and has exactly the records of its objects, in their order
   pub recorded : (m : InstanceToPlanView) → Contains members m → m.records ≡ records_of m.key records
 
--- the one instance of a resource of which nothing exists
+-- the one instance of a resource without records
 abbrev pub declared_alone : InstanceKeyView → InstanceToPlanView
 declared_alone key = record { key = key; is_declared = true; records = [] }
 
--- The same as a list.
+-- ---- the same members as a computed list
 
--- the member that an instance is
+-- the member of an instance
 abbrev pub member : List InstanceKeyView → List RecordView → InstanceKeyView → InstanceToPlanView
 member keys records key = record { key = key; is_declared = is_among keys key; records = records_of key records }
 
@@ -59,11 +59,11 @@ member keys records key = record { key = key; is_declared = is_among keys key; r
 abbrev pub with_keys : List InstanceKeyView → List InstanceKeyView → List InstanceKeyView
 with_keys known keys = fold (insert_key instance_key_cmp) known keys
 
--- the keys of the instances that records are of
+-- the keys of the recorded instances
 abbrev pub recorded_keys : List RecordView → List InstanceKeyView
 recorded_keys records = map (λ r. r.id.key) records
 
--- all instances that the configuration has or there are records of
+-- the keys of all instances that the configuration has or that are recorded
 abbrev pub all_keys : List InstanceKeyView → List RecordView → List InstanceKeyView
 all_keys keys records = with_keys (with_keys [] keys) (recorded_keys records)
 

@@ -1,4 +1,4 @@
--- What is kept of a list of actions, to tell which may be before one.
+-- The index of a list of actions, by which the candidates for being before one are found.
 use Rattle.std.specs.List.{flat_map, range_with_len}
 use Rattle.std.specs.Prelude.{◌≡◌, ◌≤◌, ◌<◌, ◌-◌, ◌++◌, ◌∷◌, ◌&&◌, [], ℕ, Bool, true, false, if◌then◌else◌, List, length, Contains, Vec}
 use Rattle.tf_graph.specs.Lists.{row}
@@ -39,11 +39,11 @@ early_place t actions s k = if applies (action_at actions k).kind && t.needs s (
 abbrev pub early_places : OrderInputView → List OrderedAction → ℕ → List ℕ
 early_places t actions s = flat_map (early_place t actions s) (range_with_len 0 (length actions))
 
--- a list of these for each resource, as far as they are noted: the rest comes behind
+-- such a list for each resource, as far as places are noted: the rest is appended
 abbrev pub AreEarly : {A : Type 0} → OrderInputView → List OrderedAction → ℕ → List (Vec ℕ A) → Type 0
 AreEarly t actions noted early = (s : ℕ) → row early s ++ flat_map (early_place t actions s) (range_with_len noted (length actions - noted)) ≡ early_places t actions s
 
--- both, with a place for each resource that the tables have
+-- both lists, with one entry for each resource that the tables have
 pub record IsKept {A : Type 0} (t : OrderInput) (actions : List OrderedAction) (noted : ℕ) (own early : List (Vec ℕ A)) : Type 0 where
   pub by_configuration : t.by_configuration.now.nodes ≤ length own
   pub by_state : t.by_state.now.nodes ≤ length own

@@ -1,10 +1,10 @@
--- What ties resources to one another. A resource is a number.
+-- The dependencies and lateness of resources. A resource is a number.
 use Rattle.std.specs.Prelude.{◌≡◌, ℕ, Bool, true, false, slice_index_or}
 use Rattle.tf_graph.specs.Closure.{reaches}
 use Rattle.tf_plan_order.specs.declared.order_input.OrderInput.{OrderInput}
 
 -- `needs a b`: by the configuration a needs b. `needed a b`: by the dependencies that the state has stored, a needed b
--- when it was made. What replaces an object of a late resource is created before that object is destroyed.
+-- when it was made. The replacement of an object of a late resource is created before that object is destroyed.
 pub record OrderInputView : Type 0 where
   pub needs : ℕ → ℕ → Bool
   pub needed : ℕ → ℕ → Bool
@@ -18,13 +18,13 @@ order_input_of t = record {
   late = λ a. slice_index_or t.late.now a false;
 }
 
--- nothing needs itself, and what is needed by what is needed is needed
+-- nothing needs itself, and need is transitive
 pub record IsStrict (needs : ℕ → ℕ → Bool) : Type 0 where
   pub irreflexive : (a : ℕ) → needs a a ≡ false
   pub transitive : (a b c : ℕ) → needs a b ≡ true → needs b c ≡ true → needs a c ≡ true
 
--- By the configuration nothing needs itself; by what the state has stored there may be rings. What was needed by what
--- was needed was needed, and what a late resource needed is late.
+-- Nothing needs itself by the configuration, but what the state has stored may have cycles. The relation `needed` is
+-- transitive, and what a late resource needed is late.
 pub record AreSound (t : OrderInputView) : Type 0 where
   pub strict : IsStrict t.needs
   pub onward : (a b c : ℕ) → t.needed a b ≡ true → t.needed b c ≡ true → t.needed a c ≡ true

@@ -13,7 +13,7 @@ abbrev pub EachHasAPlace : Type 0
 EachHasAPlace =
     (names : List NameView) (resources : List ResourceView) (r : ResourceView) → Contains resources r → (n : ℕ) × (place_in (numbered names resources) r.addr ≡ Some n)
 
--- At the place of an address stands the resource at that address.
+-- The resource at the place of an address has that address.
 abbrev pub PlacesAreTrue : Type 0
 PlacesAreTrue =
     (all : List ResourceRefView) (addr : ResourceAddrView) (n : ℕ) → place_in all addr ≡ Some n → (x : ResourceRefView) × (slice_get all n ≡ Some x) × (address_of x ≡ Some addr)
@@ -28,13 +28,13 @@ AreApart all =
     (i j : ℕ) (x y : ResourceRefView) (addr : ResourceAddrView) → slice_get all i ≡ Some x → slice_get all j ≡ Some y → address_of x ≡ Some addr → address_of y ≡ Some addr
     → i ≡ j
 
--- Where no two blocks are at one address, no two resources of both together are. So each resource of the state stands at
--- its place alone.
+-- If no two blocks have the same address, no two resources of both together have the same address. So no other resource
+-- has the address of a resource of the state.
 abbrev pub ResourcesStayApart : Type 0
 ResourcesStayApart =
     (names : List NameView) (resources : List ResourceView) → AreApart (map a_name names) → AreByAddress resources → AreApart (numbered names resources)
 
--- The names keep their places, the orphans stand behind them, and behind those nothing.
+-- The names keep their places, the orphans follow them, and there is nothing after those.
 pub record AreInOrder (names : List NameView) (resources : List ResourceView) : Type 0 where
   pub first_names : (n : ℕ) → n < length names → slice_get (numbered names resources) n ≡ option_map a_name (slice_get names n)
   pub then_orphans : (n : ℕ) → slice_get (numbered names resources) (length names + n) ≡ option_map an_orphan (slice_get (orphans names resources) n)
@@ -43,7 +43,7 @@ pub record AreInOrder (names : List NameView) (resources : List ResourceView) : 
 abbrev pub NumbersAreInOrder : Type 0
 NumbersAreInOrder = (names : List NameView) (resources : List ResourceView) → AreInOrder names resources
 
--- A resource stands among the names exactly where the configuration has a block of it.
+-- The place of a resource is among the names exactly if the configuration has a block of it.
 abbrev pub BlocksComeFirst : Type 0
 BlocksComeFirst =
     (names : List NameView) (resources : List ResourceView) (addr : ResourceAddrView) (n : ℕ) → place_in (numbered names resources) addr ≡ Some n
@@ -53,11 +53,11 @@ BlocksComeFirst =
 abbrev pub NumbersAreFew : Type 0
 NumbersAreFew = (names : List NameView) (resources : List ResourceView) → length (numbered names resources) ≤ length names + length resources
 
--- The address of a resource names it, as a text, where its type has no dot.
+-- The address of a resource, as a text, names the resource if its type has no dot.
 abbrev pub AddressesAreNamed : Type 0
 AddressesAreNamed = (addr : ResourceAddrView) → list_any is_dot addr.type_name ≡ false → named_address (addr_text addr) ≡ Some addr
 
--- The list of stored dependencies has exactly those pairs of places.
+-- The list of stored dependencies has exactly the pairs that are stored dependencies.
 abbrev pub DependenciesAreThose : Type 0
 DependenciesAreThose =
     (all : List ResourceRefView) (resources : List ResourceView) (place other : ℕ) → Contains (dependencies all resources) (place, other) ↔ IsStoredDependency all resources place other

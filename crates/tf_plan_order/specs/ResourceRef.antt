@@ -1,4 +1,4 @@
--- What has a number, without where it lies in memory.
+-- Names and orphans as plain data.
 use Rattle.tf_config_names.specs.Declaration.{declaration_of}
 use Rattle.tf_plan_order.specs.ResourceIndex.{ResourceRefView, a_name, an_orphan}
 use Rattle.tf_plan_order.specs.declared.resource_ref.ResourceRef.{ResourceRef}

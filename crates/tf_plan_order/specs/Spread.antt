@@ -1,9 +1,9 @@
--- A search for what is late, on its way.
+-- A search for late resources, while it runs.
 use Rattle.std.specs.Prelude.{◌≡◌, ◌⊎◌, ℕ, Bool, true, List, length, Contains}
 use Rattle.tf_graph.specs.NodeSet.{has}
 use Rattle.tf_graph.specs.Search.{missing}
 
--- how many resources aren't found
+-- how many resources haven't been found
 abbrev pub unfound : List Bool → ℕ
 unfound late = missing late (length late)
 

@@ -4,11 +4,11 @@ use Rattle.tf_graph.specs.Closure.{IsClosure, reaches}
 use Rattle.tf_graph.specs.Path.{Path}
 use Rattle.tf_plan_order.specs.declared.stored.StoredDependencies.{StoredDependencies}
 
--- an object of a is stored to depend on b: the pairs are of a resource and what it depends on
+-- an object of a is stored to depend on b; each pair has a resource and what it depends on
 abbrev pub DependsOn : List (ℕ × ℕ) → ℕ → ℕ → Type 0
 DependsOn dependencies a b = Contains dependencies (a, b)
 
--- a needed b where stored dependencies lead from a to b, one or more
+-- a needed b if one or more stored dependencies lead from a to b
 abbrev pub Needed : List (ℕ × ℕ) → ℕ → ℕ → Type 0
 Needed dependencies a b = Path (DependsOn dependencies) a b
 
@@ -16,7 +16,7 @@ Needed dependencies a b = Path (DependsOn dependencies) a b
 abbrev pub turned : List (ℕ × ℕ) → List (ℕ × ℕ)
 turned pairs = map (λ pair. (pair.1, pair.0)) pairs
 
--- a graph of the dependencies turned round, and a table that says exactly what needed what
+-- a graph of the reversed dependencies, and a table of exactly what needed what
 pub record IsStored (resources : ℕ) (dependencies : List (ℕ × ℕ)) (stored : StoredDependencies) : Type 0 where
   pub nodes : stored.graph.nodes ≡ resources
   pub edges : stored.graph.edges ≡ turned dependencies

@@ -1,4 +1,4 @@
--- An index of resources, without where it lies in memory.
+-- An index of resources as plain data.
 use Rattle.std.specs.Prelude.{List, map}
 use Rattle.tf_plan_order.specs.ResourceRef.{resource_ref_of}
 use Rattle.tf_plan_order.specs.ResourceIndex.{ResourceRefView}

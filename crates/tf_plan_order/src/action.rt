@@ -1,6 +1,6 @@
 //! The actions of a plan, as far as their order depends on them.
 
-/// What an action does.
+/// The kind of an action.
 #[derive(Clone, Copy, Debug, PartialEq, Eq)]
 pub enum ActionKind {
     /// It creates or updates the current object of an instance.
@@ -18,8 +18,8 @@ pub struct OrderedAction {
     pub resource: usize,
     /// The number of its instance, among those of its resource.
     pub instance: usize,
-    /// What it does.
+    /// Its kind.
     pub kind: ActionKind,
-    /// Whether it is half of a replace: a create, with the destroy of the object that it takes the place of.
+    /// Whether it is half of a replace: a create, or the destroy of the object that the create replaces.
     pub replaces: bool,
 }

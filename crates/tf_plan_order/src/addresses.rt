@@ -10,12 +10,12 @@ use std::alloc::{AllocError, Global};
 use std::cmp::Ordering;
 use tf_config_address::ResourceAddr;
 
-/// The places of all resources of a configuration and a state together, in the order of their addresses: by type and then by
-/// name, byte by byte. Locals are no resources.
+/// Returns the places of all resources of a configuration and a state together, in address order: by type and then by
+/// name, byte by byte. Locals are not resources.
 ///
 /// # Errors
 ///
-/// Only where memory runs out.
+/// Fails only if memory runs out.
 pub fn address_order(
     alloc: Global,
     resource_index: &ResourceIndex<'_>,
@@ -27,7 +27,7 @@ pub fn address_order(
     Ok(places)
 }
 
-/// The places of all resources, in the order of places.
+/// Returns the places of all resources, in ascending order.
 fn resource_places(
     alloc: Global,
     resource_index: &ResourceIndex<'_>,
@@ -43,21 +43,21 @@ fn resource_places(
     Ok(places)
 }
 
-/// Whether a resource stands at a place.
+/// Checks whether a resource is at a place.
 fn is_resource(resource_index: &ResourceIndex<'_>, place: usize) -> bool
     ensures { result ≡ is_resource (numbered_in resource_index.now) place }
 {
     address_at(resource_index, place).is_some()
 }
 
-/// How the address at one place stands to that at another.
+/// Compares the addresses at two places.
 fn compare(resource_index: &ResourceIndex<'_>, a: usize, b: usize) -> Ordering
     ensures { result ≡ address_cmp (numbered_in resource_index.now) a b }
 {
     address_at(resource_index, a).cmp(&address_at(resource_index, b))
 }
 
-/// The address of the resource at a place, where there is one.
+/// Returns the address of the resource at a place, if there is one.
 fn address_at<'a>(resource_index: &ResourceIndex<'a>, place: usize) -> Option<&'a ResourceAddr>
     ensures { option_map (λ addr. addr_of addr.now) result ≡ address_at (numbered_in resource_index.now) place }
 {

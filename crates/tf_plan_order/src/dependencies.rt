@@ -1,4 +1,4 @@
-//! What the state has stored of what needed what.
+//! The dependencies that the state has stored.
 
 ghost use Rattle.std.specs.Prelude.{◌≡◌, ◌≤◌, ◌++◌, ◌∷◌, [], IfOk, OnOk, length, map};
 ghost use Rattle.std.specs.List.{flat_map};
@@ -17,11 +17,11 @@ use tf_state_data::{Record, Resource};
 type Pairs = Vec<(usize, usize)>;
 
 impl ResourceIndex<'_> {
-    /// What needed what when it was made, by the dependencies that the state has stored.
+    /// Builds what needed what when it was made, from the dependencies that the state has stored.
     ///
     /// # Errors
     ///
-    /// Only where memory runs out.
+    /// Fails only if memory runs out.
     pub fn stored(&self, alloc: Global) -> Result<StoredDependencies, AllocError>
         requires few { length (numbered_in self.now) ≤ MAX_NODES }
         ensures { IfOk result (λ stored. IsStored (length (numbered_in self.now))
@@ -31,13 +31,13 @@ impl ResourceIndex<'_> {
         StoredDependencies::new(alloc, self.len(), pairs.as_slice())
     }
 
-    /// The stored dependencies: the place of each resource of the state with the places of what any of its objects
-    /// depends on, current or deposed. What is neither declared nor in the state is left out. They may go in a ring,
-    /// stand more than once, and be of a resource and itself.
+    /// Returns the stored dependencies: pairs of the place of a resource of the state and the place of what one of its
+    /// objects depends on, current or deposed. What is neither declared nor in the state is left out. Cycles,
+    /// duplicates and self-edges are allowed.
     ///
     /// # Errors
     ///
-    /// Only where memory runs out.
+    /// Fails only if memory runs out.
     pub fn dependencies(&self, alloc: Global) -> Result<Vec<(usize, usize)>, AllocError>
         ensures { IfOk result (λ pairs. pairs.items ≡ dependencies (numbered_in self.now) (resources_in self.now)) }
     {
@@ -48,7 +48,7 @@ impl ResourceIndex<'_> {
         Ok(pairs)
     }
 
-    /// Adds what the objects of a resource depend on.
+    /// Adds the dependencies of a resource's objects.
     fn add_resource(&self, pairs: &mut Pairs, resource: &Resource) -> Result<(), AllocError>
         ensures { OnOk result (pairs.new.items
             ≡ pairs.old.items ++ resource_pairs (numbered_in self.now) (resource_of resource.now)) }
@@ -59,7 +59,7 @@ impl ResourceIndex<'_> {
         }
     }
 
-    /// Adds what the objects of the resource at a place depend on, by their records.
+    /// Adds the dependencies of the objects of the resource at a place, from their records.
     fn add_records(
         &self,
         pairs: &mut Pairs,
@@ -75,7 +75,7 @@ impl ResourceIndex<'_> {
         Ok(())
     }
 
-    /// Adds what an object of the resource at a place depends on, by its record.
+    /// Adds the dependencies of an object of the resource at a place, from its record.
     fn add_record(&self, pairs: &mut Pairs, place: usize, kept: &Record) -> Result<(), AllocError>
         ensures { OnOk result (pairs.new.items
             ≡ pairs.old.items ++ record_pairs (numbered_in self.now) place (record_of kept.now)) }
@@ -86,7 +86,7 @@ impl ResourceIndex<'_> {
         Ok(())
     }
 
-    /// Adds a place with that of the resource that a text names, where there is one.
+    /// Adds the pair of a place and that of the resource that a text names, if there is one.
     fn add_named(&self, pairs: &mut Pairs, place: usize, text: &str) -> Result<(), AllocError>
         ensures { OnOk result (pairs.new.items
             ≡ pairs.old.items ++ text_pairs (numbered_in self.now) place (text.now ∷ [])) }

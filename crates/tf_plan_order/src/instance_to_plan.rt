@@ -3,7 +3,7 @@
 use tf_config_address::InstanceKey;
 use tf_state_data::Record;
 
-/// An instance of a resource, by its configuration and by what its state has, together.
+/// An instance of a resource, from the configuration and the state together.
 #[derive(Drop)]
 pub struct InstanceToPlan<'a> {
     /// The instance.

@@ -9,15 +9,16 @@ ghost use Rattle.tf_plan_order.specs.Spread.{IsFurther, unfound};
 use std::alloc::{AllocError, Global};
 use tf_graph::Graph;
 
-/// For each resource whether it is late: it is marked, or a marked one needs it or needed it when it was made, through
-/// others too. What replaces an object of a late resource is created before that object is destroyed.
+/// Computes for each resource whether it is late: it is marked, or a marked one needs it or needed it when it was made,
+/// directly or through others. The replacement of an object of a late resource is created before that object is
+/// destroyed.
 ///
 /// Both graphs lead from what is needed to what needs it: `needs` by the configuration, and `needed` by the
-/// dependencies that the state has stored. The marked ones have `create_before_destroy`.
+/// dependencies that the state has stored. The marked resources have `create_before_destroy`.
 ///
 /// # Errors
 ///
-/// Only where memory runs out.
+/// Fails only if memory runs out.
 pub fn lateness(
     alloc: Global,
     needs: &Graph,
@@ -40,7 +41,7 @@ pub fn lateness(
     Ok(search.late)
 }
 
-/// The places of the marks.
+/// Returns the marked places.
 fn places_of(alloc: Global, marked: &[bool]) -> Result<Vec<usize>, AllocError>
     ensures { IfOk result (λ places. (n : ℕ) → Contains places.items n ↔ (has marked.now n ≡ true)) }
 {
@@ -53,16 +54,16 @@ fn places_of(alloc: Global, marked: &[bool]) -> Result<Vec<usize>, AllocError>
     Ok(places)
 }
 
-/// A search for what is late.
+/// A search for late resources.
 #[derive(Drop)]
 struct LateSearch {
     /// For each resource whether it is known to be late.
     late: Vec<bool>,
-    /// The late ones for which it is still to be looked what they need and needed.
+    /// The late ones whose own needs haven't been searched yet.
     pending: Vec<usize>,
 }
 
-/// Finds what a resource needs directly, by one of the graphs.
+/// Marks what a resource needs directly, by one of the graphs, as late.
 fn visit(graph: &Graph, search: &mut LateSearch, resource: usize) -> Result<(), AllocError>
     requires { graph.now.nodes ≤ length search.old.late.items }
     ensures further { OnOk result (IsFurther search.old.late.items search.new.late.items search.old.pending.items search.new.pending.items
@@ -80,7 +81,7 @@ fn visit(graph: &Graph, search: &mut LateSearch, resource: usize) -> Result<(), 
     Ok(())
 }
 
-/// Notes that a resource is late.
+/// Marks a resource as late, and adds it to the pending ones if it is new.
 fn find(search: &mut LateSearch, resource: usize) -> Result<(), AllocError>
     requires { resource < length search.old.late.items }
     ensures further { OnOk result (IsFurther search.old.late.items search.new.late.items search.old.pending.items search.new.pending.items

@@ -2,7 +2,7 @@
 
 ghost use Rattle.tf_plan_order.specs.Laws.{BeforeIsTested, NoChainLeadsBack, StagesNeverFall, StageIsStrict, PairsAreThose, AcyclicIsStrict, OrderInputIsSound, NoStateLeadsBack};
 
-/// The test of what is before what is true exactly in the five cases.
+/// The computable test `is_before` is true exactly in the five cases.
 pub fn before_is_tested()
     ensures { BeforeIsTested }
 {}
@@ -18,22 +18,23 @@ pub fn stages_never_fall()
     ensures { StagesNeverFall }
 {}
 
-/// Among destroys that aren't late, among creates and updates, and among late destroys, before is a strict order.
+/// Among destroys that aren't late, among creates and updates, and among late destroys, *before* is a strict order.
 pub fn stage_is_strict()
     ensures { StageIsStrict }
 {}
 
-/// The list of pairs has exactly those of which the first is before the second, each once.
+/// The list of pairs has exactly those whose first is before the second, each once.
 pub fn pairs_are_those()
     ensures { PairsAreThose }
 {}
 
-/// Where by the configuration nothing needs itself, its table is a strict order.
+/// If nothing needs itself by the configuration, its table is a strict order.
 pub fn acyclic_is_strict()
     ensures { AcyclicIsStrict }
 {}
 
-/// Ties are sound where by the configuration nothing needs itself, whatever the state has stored and whatever is marked.
+/// The order's input is sound if nothing needs itself by the configuration, whatever the state has stored and whatever
+/// is marked.
 pub fn order_input_is_sound()
     ensures { OrderInputIsSound }
 {}

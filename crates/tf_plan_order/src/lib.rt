@@ -1,9 +1,10 @@
-//! The resources of a configuration and of a prior state together, the instances of each, and the order of a plan's actions.
+//! The resources of a configuration and of a prior state together, the instances of each, and the order of a plan's
+//! actions.
 //!
-//! Resources have numbers: the names of the configuration keep their places, and behind them stand the orphans, the resources
-//! of the state of which the configuration has no block. A member of a resource is an instance that the configuration has, or
-//! of which there is a record, or both. The order of actions, and which resources are late, follow from what ties resources
-//! to one another: which needs which by the configuration, and which needed which when it was made, by what the state has
+//! Resources have numbers: the names of the configuration keep their places, followed by the orphans, the resources of
+//! the state without a block in the configuration. A member of a resource is an instance that the configuration has, or
+//! that has a record, or both. The order of actions, and which resources are late, follow from two relations of
+//! resources: which needs which by the configuration, and which needed which when it was made, by what the state has
 //! stored.
 #![tactic(auto)]
 

@@ -12,11 +12,11 @@ use tf_config_names::Declaration;
 use tf_state_data::Record;
 
 impl ResourceIndex<'_> {
-    /// For each place whether the resource there is marked (`is_marked`).
+    /// Returns for each place whether the resource there is marked (`is_marked`).
     ///
     /// # Errors
     ///
-    /// Only where memory runs out.
+    /// Fails only if memory runs out.
     pub fn marked(&self, alloc: Global) -> Result<Vec<bool>, AllocError>
         ensures { IfOk result (λ marked. marked.items ≡ map is_marked (numbered_in self.now)) }
     {
@@ -27,7 +27,7 @@ impl ResourceIndex<'_> {
         Ok(marked)
     }
 
-    /// Whether the resource at a place is marked: its block says `create_before_destroy`, or, where the block is gone,
+    /// Checks whether the resource at a place is marked: its block says `create_before_destroy` or, if it has no block,
     /// the record of any of its objects does. A local is never marked.
     pub fn is_marked(&self, place: usize) -> bool
         requires { place < length (numbered_in self.now) }
@@ -43,7 +43,7 @@ impl ResourceIndex<'_> {
     }
 }
 
-/// Whether the record of some object says `create_before_destroy`.
+/// Checks whether the record of some object says `create_before_destroy`.
 fn any_says_so(records: &[Record]) -> bool
     ensures { result ≡ list_any (λ x. x.create_before_destroy) records.now }
 {

@@ -14,12 +14,12 @@ use std::collections::BTreeSet;
 use tf_config_address::InstanceKey;
 use tf_state_data::Record;
 
-/// The instances of a resource of which the configuration has those with some keys, and the state has some records: all of
-/// both, each once, in address order. The block of a resource may be gone; then it has no keys.
+/// Returns the instances of a resource for which the configuration has the given keys and the state the given records:
+/// all of both, each once, in address order. An orphan has no keys.
 ///
 /// # Errors
 ///
-/// Only where memory runs out.
+/// Fails only if memory runs out.
 pub fn members<'a>(
     alloc: Global,
     keys: &[InstanceKey],
@@ -38,7 +38,7 @@ pub fn members<'a>(
     each_member(alloc, &declared, &all, records)
 }
 
-/// The one instance of a resource of which nothing exists.
+/// Returns the one instance of a resource without records.
 fn only_declared<'a>(
     alloc: Global,
     key: &InstanceKey,
@@ -64,7 +64,7 @@ fn add_keys(known: &mut BTreeSet<InstanceKey>, keys: &[InstanceKey]) -> Result<(
     Ok(())
 }
 
-/// Adds the keys of the instances that records are of.
+/// Adds the keys of the recorded instances.
 fn add_recorded(known: &mut BTreeSet<InstanceKey>, records: &[Record]) -> Result<(), AllocError>
     ensures { OnOk result (keys_in known.new ≡ with_keys (keys_in known.old) (recorded_keys (map record_of records.now))) }
 {
@@ -74,7 +74,7 @@ fn add_recorded(known: &mut BTreeSet<InstanceKey>, records: &[Record]) -> Result
     Ok(())
 }
 
-/// The member of each key, where the configuration has some of them.
+/// Builds the member of each key. The configuration has the `declared` ones.
 fn each_member<'a>(
     alloc: Global,
     declared: &BTreeSet<InstanceKey>,

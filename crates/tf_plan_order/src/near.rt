@@ -1,4 +1,4 @@
-//! Which actions may be before an action, by what ties their resources.
+//! An index of the actions that may be before an action.
 
 ghost use Rattle.std.specs.Prelude.{◌≡◌, ◌≤◌, ◌<◌, ◌+◌, ◌++◌, ◌∷◌, ◌&&◌, ◌==◌, ◌⊎◌, [], ℕ, true, false, Contains, IfOk, IfSome, OnOk, length, if◌then◌else◌};
 ghost use Rattle.tf_graph.specs.Closure.{reaches};
@@ -15,22 +15,22 @@ use crate::order_input::OrderInput;
 use std::alloc::{AllocError, Global};
 use tf_graph::{Closure, NodeSet};
 
-/// What is kept of a list of actions, to tell which may be before one: two actions of resources that nothing ties to one
-/// another are in no order.
+/// An index of a list of actions, by which the candidates for being before one are found. Two actions of unrelated
+/// resources are in no order.
 #[derive(Drop)]
 pub struct Near {
     /// For each resource the places of its actions.
     own: Vec<Vec<usize>>,
-    /// For each resource the places of what is created or updated of all that it needs, in order.
+    /// For each resource the places of the creates and updates of all that it needs, in order.
     early: Vec<Vec<usize>>,
 }
 
 impl Near {
-    /// What is kept of these actions.
+    /// Builds the index of these actions.
     ///
     /// # Errors
     ///
-    /// Only where memory runs out.
+    /// Fails only if memory runs out.
     pub fn new(
         alloc: Global,
         ties: &OrderInput<'_>,
@@ -49,8 +49,8 @@ impl Near {
         Ok(Near { own, early })
     }
 
-    /// The places of all that is before what creates or updates an object and isn't half of a replace, in order. `None` for
-    /// other actions, and where nothing is kept of the resource.
+    /// Returns the places of all that is before an action that creates or updates an object and isn't half of a
+    /// replace, in order. Returns `None` for other actions, and if the index doesn't have the resource.
     pub fn early_for(&self, action: &OrderedAction) -> Option<&[usize]>
         ensures places { IfSome result (λ places. places.now ≡ row self.now.early.items action.now.resource) }
         ensures applies { IfSome result (λ _. IsApply action.now) }
@@ -65,11 +65,11 @@ impl Near {
         }
     }
 
-    /// A set of places that has each action that is before the one at a place, and maybe others.
+    /// Returns a set of places that has each action that is before the one at a place, and maybe others.
     ///
     /// # Errors
     ///
-    /// Only where memory runs out.
+    /// Fails only if memory runs out.
     pub fn before(
         &self,
         alloc: Global,
@@ -100,7 +100,7 @@ impl Near {
     }
 }
 
-/// A number that no table has more nodes than.
+/// Returns a number that is at least the number of nodes of each table.
 fn resources(ties: &OrderInput<'_>) -> usize
     ensures by_configuration { ties.now.by_configuration.now.nodes ≤ result }
     ensures by_state { ties.now.by_state.now.nodes ≤ result }
@@ -108,7 +108,7 @@ fn resources(ties: &OrderInput<'_>) -> usize
     ties.by_configuration.nodes().max(ties.by_state.nodes())
 }
 
-/// An empty list for each resource.
+/// Returns an empty list for each resource.
 fn empty_lists(alloc: Global, count: usize) -> Result<Vec<Vec<usize>>, AllocError>
     ensures count { IfOk result (λ lists. length lists.items ≡ count) }
     ensures rows { IfOk result (λ lists. (n : ℕ) → row lists.items n ≡ []) }
@@ -120,7 +120,7 @@ fn empty_lists(alloc: Global, count: usize) -> Result<Vec<Vec<usize>>, AllocErro
     Ok(lists)
 }
 
-/// Adds a place to the list of a resource, if there is one.
+/// Adds a place to the list of a resource, if that list exists.
 fn list(lists: &mut [Vec<usize>], resource: usize, place: usize) -> Result<(), AllocError>
     ensures count { length lists.new ≡ length lists.old }
     ensures kept { OnOk result ((r k : ℕ) → Contains (row lists.old r) k → Contains (row lists.new r) k) }
@@ -134,7 +134,7 @@ fn list(lists: &mut [Vec<usize>], resource: usize, place: usize) -> Result<(), A
     Ok(())
 }
 
-/// Adds the place of what creates or updates to the lists of all that needs its resource.
+/// Adds the place of a create or update to the lists of all that needs its resource.
 fn note(
     early: &mut [Vec<usize>],
     table: &Closure,
@@ -152,7 +152,7 @@ fn note(
     }
 }
 
-/// Adds a place to the list of each resource that a table leads to from one.
+/// Adds a place to the list of each resource that a table leads to from the given one.
 fn spread(
     lists: &mut [Vec<usize>],
     table: &Closure,
@@ -172,7 +172,7 @@ fn spread(
     Ok(())
 }
 
-/// Adds a place to one of some lists.
+/// Adds a place to the list at an index.
 fn add(lists: &mut [Vec<usize>], at: usize, place: usize) -> Result<(), AllocError>
     requires { at < length lists.old }
     ensures count { length lists.new ≡ length lists.old }
@@ -184,7 +184,7 @@ fn add(lists: &mut [Vec<usize>], at: usize, place: usize) -> Result<(), AllocErr
     Ok(())
 }
 
-/// Adds all places.
+/// Adds all places below a count.
 fn fill(set: &mut NodeSet, count: usize)
     requires { count ≤ length set.old }
     ensures grown { HasGrown set.old set.new }
@@ -227,7 +227,7 @@ fn add_half(set: &mut NodeSet, actions: &[OrderedAction], action: &OrderedAction
     }
 }
 
-/// Adds the actions of each resource that a table leads to from one.
+/// Adds the actions of each resource that a table leads to from the given one.
 fn add_reached(set: &mut NodeSet, own: &[Vec<usize>], table: &Closure, resource: usize)
     requires nodes { table.now.nodes ≤ length own.now }
     requires within { (r k : ℕ) → Contains (row own.now r) k → k < length set.old }

@@ -13,10 +13,10 @@ use std::alloc::Global;
 use std::marker::Model;
 use tf_graph::{Graph, MAX_NODES, NodeSet};
 
-/// The most pairs of actions of which the first is before the second that a plan may have.
+/// The most pairs of actions, the first before the second, that a plan may have.
 pub const MAX_PAIRS: usize = 200_000;
 
-/// Why the order of a plan's actions isn't made.
+/// Why the order of a plan's actions can't be built.
 #[derive(Clone, Copy, Debug, PartialEq, Eq)]
 pub enum OrderFault {
     /// There are more pairs than `MAX_PAIRS`.
@@ -44,12 +44,12 @@ impl Model for Order {
 }
 
 impl Order {
-    /// The order of these actions, which stand as their places in the list: each pair of which the first is before the
-    /// second, once.
+    /// Builds the order of these actions, which are given by their places in the list. It has each pair whose first is
+    /// before the second, once.
     ///
     /// # Errors
     ///
-    /// `TooMany` where there are more such pairs than `MAX_PAIRS`, and `OutOfMemory`.
+    /// Fails with `TooMany` if there are more such pairs than `MAX_PAIRS`, and with `OutOfMemory`.
     pub fn new(
         alloc: Global,
         ties: &OrderInput<'_>,
@@ -69,7 +69,7 @@ impl Order {
         }
     }
 
-    /// The graph. No chain of its edges leads back, and some rank rises along each.
+    /// Returns the graph. No chain of its edges leads back, and some rank rises along each.
     pub fn graph(&self) -> &Graph
         ensures graph { result.now ≡ self.now }
         ensures order { IsOrder self.now }
@@ -78,7 +78,7 @@ impl Order {
     }
 }
 
-/// All pairs of actions of which the first is before the second.
+/// Returns all pairs of actions whose first is before the second.
 fn all_pairs(
     alloc: Global,
     ties: &OrderInput<'_>,
@@ -100,8 +100,8 @@ fn all_pairs(
     Ok(found)
 }
 
-/// How many pairs are put down from lists, but no more than there may be: the list of all pairs has room for so many from
-/// the first on.
+/// Returns how many pairs are copied from the index's lists, at most `MAX_PAIRS`. The list of all pairs is allocated
+/// with that capacity.
 fn listed(near: &Near, actions: &[OrderedAction]) -> usize
     ensures { result ≤ MAX_PAIRS }
 {
@@ -114,7 +114,7 @@ fn listed(near: &Near, actions: &[OrderedAction]) -> usize
     count.min(MAX_PAIRS)
 }
 
-/// Adds an action's pairs with those that are before it.
+/// Adds the pairs of an action with those that are before it.
 fn add_pairs_into(
     alloc: Global,
     found: &mut Vec<(usize, usize)>,
@@ -140,7 +140,7 @@ fn add_pairs_into(
     add_before(found, ties, actions, second, &set)
 }
 
-/// Adds an action's pairs with those in a list.
+/// Adds the pairs of an action with those in a list.
 fn add_listed(
     found: &mut Vec<(usize, usize)>,
     before: &[usize],
@@ -162,7 +162,7 @@ fn add_listed(
     Ok(())
 }
 
-/// Adds an action's pairs with those that are before it, which are members of a set.
+/// Adds the pairs of an action with those that are before it. These are members of the set `near`.
 fn add_before(
     found: &mut Vec<(usize, usize)>,
     ties: &OrderInput<'_>,
@@ -188,7 +188,7 @@ fn add_before(
     Ok(())
 }
 
-/// Adds a pair, if it is one of an action and one that is before it.
+/// Adds a pair if its first action is before the second.
 fn add_if(
     found: &mut Vec<(usize, usize)>,
     holds: bool,
@@ -209,7 +209,7 @@ fn add_if(
     found.push(pair).map_err(|_| OrderFault::OutOfMemory)
 }
 
-/// Whether an action is before another.
+/// Checks whether an action is before another.
 fn is_before(ties: &OrderInput<'_>, first: &OrderedAction, second: &OrderedAction) -> bool
     ensures { result ≡ is_before (order_input_of ties.now) first.now second.now }
 {
@@ -233,7 +233,7 @@ fn is_before(ties: &OrderInput<'_>, first: &OrderedAction, second: &OrderedActio
     }
 }
 
-/// Whether two actions, of which one creates and the other destroys an object, are the halves of one replace.
+/// Checks whether two actions, of which one creates and the other destroys an object, are the halves of one replace.
 pub(crate) fn are_halves(action: &OrderedAction, other: &OrderedAction) -> bool
     ensures { result ≡ are_halves action.now other.now }
 {
@@ -243,14 +243,14 @@ pub(crate) fn are_halves(action: &OrderedAction, other: &OrderedAction) -> bool
         && action.instance == other.instance
 }
 
-/// Whether what the first destroys needed what the second does, and not the other way round.
+/// Checks whether what the first destroys needed what the second does, and not the other way round.
 fn is_destroyed_first(ties: &OrderInput<'_>, first: &OrderedAction, second: &OrderedAction) -> bool
     ensures { result ≡ is_destroyed_first (order_input_of ties.now) first.now second.now }
 {
     ties.needed(first.resource, second.resource) && !ties.needed(second.resource, first.resource)
 }
 
-/// Whether the one's resource needs the other's, or needed it when it was made.
+/// Checks whether the resource of one action needs the other's, or needed it when it was made.
 fn is_dependent(ties: &OrderInput<'_>, action: &OrderedAction, other: &OrderedAction) -> bool
     ensures { result ≡ is_dependent (order_input_of ties.now) action.now other.now }
 {

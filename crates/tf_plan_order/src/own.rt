@@ -9,8 +9,8 @@ ghost use Rattle.tf_state_data.specs.Record.{record_of};
 use tf_config_address::InstanceKey;
 use tf_state_data::Record;
 
-/// The records of an instance's objects among those of its resource, which stand by their ids: the current one, if there is
-/// one, before the deposed ones by their keys.
+/// Returns the records of an instance's objects among those of its resource, which are ordered by their ids: the
+/// current one, if there is one, before the deposed ones by their keys.
 pub fn records_of<'a>(records: &'a [Record], key: &InstanceKey) -> &'a [Record]
     requires { AreById (map record_of records.now) }
     ensures { map record_of result.now ≡ records_of (instance_key_of key.now) (map record_of records.now) }

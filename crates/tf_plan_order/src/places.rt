@@ -9,12 +9,12 @@ use crate::resource_ref::ResourceRef;
 use std::alloc::{AllocError, Global};
 use tf_config_names::Places;
 
-/// The places of the resources in a list, from 0 on, by their types and then by their names. Of resources at one
-/// address it has the first.
+/// Builds the places of the resources in a list, from 0 on, by their types and then by their names. Of resources at one
+/// address it keeps the first.
 ///
 /// # Errors
 ///
-/// Only where memory runs out.
+/// Fails only if memory runs out.
 pub(crate) fn places_of(alloc: Global, numbered: &[ResourceRef<'_>]) -> Result<Places, AllocError>
     ensures { IfOk result (λ places. (addr : ResourceAddrView)
         → found_in places (addr_pair addr) ≡ place_in (map resource_ref_of numbered.now) addr) }
@@ -26,7 +26,7 @@ pub(crate) fn places_of(alloc: Global, numbered: &[ResourceRef<'_>]) -> Result<P
     Ok(places)
 }
 
-/// Puts a resource at a place, and nowhere else. A local has no place among resources.
+/// Puts a resource at a place, and removes its former place. A local has no place among resources.
 fn put(
     places: &mut Places,
     alloc: Global,

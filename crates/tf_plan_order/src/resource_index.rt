@@ -15,8 +15,7 @@ use tf_config_names::{Declarations, Places};
 use tf_state_data::{Resource, State};
 
 /// The resources of a configuration and of a prior state together, by number. The names of the configuration keep their
-/// places; behind them stand the orphans, the resources of the state of which the configuration has no block, in
-/// address order.
+/// places. The orphans, the resources of the state without a block in the configuration, follow in address order.
 #[derive(Drop)]
 pub struct ResourceIndex<'a> {
     numbered: Vec<ResourceRef<'a>>,
@@ -32,7 +31,7 @@ impl<'a> ResourceIndex<'a> {
     ///
     /// # Errors
     ///
-    /// Only where memory runs out.
+    /// Fails only if memory runs out.
     pub fn new(
         alloc: Global,
         names: &Declarations<'a>,
@@ -56,14 +55,14 @@ impl<'a> ResourceIndex<'a> {
         })
     }
 
-    /// How many numbers there are: as many as names and orphans.
+    /// Returns how many numbers there are: as many as names and orphans.
     pub fn len(&self) -> usize
         ensures { result ≡ length (numbered_in self.now) }
     {
         self.numbered.len()
     }
 
-    /// What stands at a place.
+    /// Returns the name or the orphan at a place.
     pub fn at(&self, place: usize) -> ResourceRef<'a>
         requires { place < length (numbered_in self.now) }
         ensures { slice_get (numbered_in self.now) place ≡ Some (resource_ref_of result) }
@@ -71,7 +70,7 @@ impl<'a> ResourceIndex<'a> {
         self.numbered[place]
     }
 
-    /// The place of the resource at an address, which is a block or an orphan; `None` where there is none.
+    /// Returns the place of the resource at an address, which is a block or an orphan, or `None` if there is none.
     pub fn place(&self, addr: &ResourceAddr) -> Option<usize>
         ensures { result ≡ place_in (numbered_in self.now) (addr_of addr.now) }
     {
@@ -79,7 +78,8 @@ impl<'a> ResourceIndex<'a> {
             .find(addr.type_name.as_str(), addr.name.as_str())
     }
 
-    /// The place of the resource that a text `TYPE.NAME` names; `None` where it is neither declared nor in the state.
+    /// Returns the place of the resource that a text `TYPE.NAME` names, or `None` if it is neither declared nor in the
+    /// state.
     pub fn named_place(&self, text: &str) -> Option<usize>
         ensures { result ≡ named_place (numbered_in self.now) text.now }
     {
@@ -89,7 +89,7 @@ impl<'a> ResourceIndex<'a> {
         }
     }
 
-    /// The state whose resources it numbers.
+    /// Returns the state whose resources it numbers.
     pub(crate) fn state(&self) -> &'a State
         ensures { (state_of result.now).resources ≡ resources_in self.now }
     {
@@ -97,7 +97,7 @@ impl<'a> ResourceIndex<'a> {
     }
 }
 
-/// The names of a configuration, in their order.
+/// Returns the names of a configuration, in their order.
 fn numbered_names<'a>(
     alloc: Global,
     names: &Declarations<'a>,
@@ -111,7 +111,7 @@ fn numbered_names<'a>(
     Ok(numbered)
 }
 
-/// Adds those of some resources of which there is no block.
+/// Adds those of some resources that have no block.
 fn add_orphans<'a>(
     numbered: &mut Vec<ResourceRef<'a>>,
     blocks: &Places,
@@ -128,7 +128,7 @@ fn add_orphans<'a>(
     Ok(())
 }
 
-/// Adds a resource, where it has no block.
+/// Adds a resource if it has no block.
 fn add_orphan<'a>(
     numbered: &mut Vec<ResourceRef<'a>>,
     block: Option<usize>,

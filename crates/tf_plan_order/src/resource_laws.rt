@@ -7,7 +7,7 @@ pub fn each_has_a_place()
     ensures { EachHasAPlace }
 {}
 
-/// At the place of an address stands the resource at that address.
+/// The resource at the place of an address has that address.
 pub fn places_are_true()
     ensures { PlacesAreTrue }
 {}
@@ -17,17 +17,17 @@ pub fn places_differ()
     ensures { PlacesDiffer }
 {}
 
-/// Where no two blocks are at one address, no two resources of configuration and state together are.
+/// If no two blocks have the same address, no two resources of configuration and state together have the same address.
 pub fn resources_stay_apart()
     ensures { ResourcesStayApart }
 {}
 
-/// The names keep their places, the orphans stand behind them, and behind those nothing.
+/// The names keep their places, the orphans follow them, and there is nothing after those.
 pub fn numbers_are_in_order()
     ensures { NumbersAreInOrder }
 {}
 
-/// A resource stands among the names exactly where the configuration has a block of it.
+/// The place of a resource is among the names exactly if the configuration has a block of it.
 pub fn blocks_come_first()
     ensures { BlocksComeFirst }
 {}
@@ -37,13 +37,13 @@ pub fn numbers_are_few()
     ensures { NumbersAreFew }
 {}
 
-/// The address of a resource names it, as a text, where its type has no dot.
+/// The address of a resource, as a text, names the resource if its type has no dot.
 pub fn addresses_are_named()
     ensures { AddressesAreNamed }
 {}
 
-/// The list of stored dependencies has exactly the pairs of places of which an object of the one is stored to depend on
-/// the other.
+/// The list of stored dependencies has exactly the pairs of places such that an object of the first is stored to depend
+/// on the second.
 pub fn dependencies_are_those()
     ensures { DependenciesAreThose }
 {}

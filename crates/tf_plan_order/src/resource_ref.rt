@@ -1,4 +1,4 @@
-//! What has a number.
+//! Names and orphans, which have numbers.
 
 ghost use Rattle.std.specs.Prelude.{◌≡◌, option_map};
 ghost use Rattle.tf_config_address.specs.ResourceAddr.{addr_of};
@@ -9,17 +9,17 @@ use tf_config_address::ResourceAddr;
 use tf_config_names::Declaration;
 use tf_state_data::Resource;
 
-/// What has a number in a configuration and a prior state together.
+/// A name or an orphan, which has a number in a configuration and a prior state together.
 #[derive(Clone, Copy)]
 pub enum ResourceRef<'a> {
     /// A name of the configuration: a local, or a resource with its block.
     Name(Declaration<'a>),
-    /// A resource of the state of which the configuration has no block.
+    /// A resource of the state without a block in the configuration.
     Orphan(&'a Resource),
 }
 
 impl<'a> ResourceRef<'a> {
-    /// The address of a resource; `None` for a local.
+    /// Returns the address of a resource, or `None` for a local.
     pub fn address(self) -> Option<&'a ResourceAddr>
         ensures { option_map (λ addr. addr_of addr.now) result ≡ address_of (resource_ref_of self.entry) }
     {

@@ -16,12 +16,12 @@ pub struct StoredDependencies {
 }
 
 impl StoredDependencies {
-    /// Of so many resources, by pairs of a resource and one that its objects are stored to depend on. They may go in a
-    /// ring, stand more than once, and be of a resource and itself.
+    /// Builds the relation for the given number of resources, from pairs of a resource and one that its objects are
+    /// stored to depend on. Cycles, duplicates and self-edges are allowed.
     ///
     /// # Errors
     ///
-    /// Only where memory runs out.
+    /// Fails only if memory runs out.
     pub fn new(
         alloc: Global,
         resources: usize,
@@ -37,21 +37,22 @@ impl StoredDependencies {
         Ok(StoredDependencies { graph, table })
     }
 
-    /// Whether a resource needed another when it was made.
+    /// Checks whether a resource needed another when it was made.
     pub fn needed(&self, resource: usize, other: usize) -> bool
         ensures { result ≡ reaches self.now.table other resource }
     {
         self.table.reaches(other, resource)
     }
 
-    /// The graph of these dependencies, which leads from what was needed to what needed it.
+    /// Returns the graph of these dependencies, which leads from what was needed to what needed it.
     pub fn graph(&self) -> &Graph
         ensures { result.now ≡ self.now.graph }
     {
         &self.graph
     }
 
-    /// What needed what, through others too, as a table that leads from what was needed to what needed it.
+    /// Returns a table of what needed what, directly or through others. It leads from what was needed to what needed
+    /// it.
     pub fn table(&self) -> &Closure
         ensures { result.now ≡ self.now.table }
     {
@@ -59,7 +60,7 @@ impl StoredDependencies {
     }
 }
 
-/// Each pair the other way round.
+/// Returns each pair the other way round.
 fn turn(alloc: Global, pairs: &[(usize, usize)]) -> Result<Vec<(usize, usize)>, AllocError>
     ensures { IfOk result (λ edges. edges.items ≡ turned pairs.now) }
 {

@@ -1,4 +1,4 @@
--- What is planned, without where it lies in memory.
+-- The input of a plan as plain data.
 use Rattle.std.specs.Prelude.{◌≡◌, List}
 use Rattle.tf_config_data.specs.Names.{NameView}
 use Rattle.tf_config_names.specs.Table.{names_in}

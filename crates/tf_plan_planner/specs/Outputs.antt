@@ -1,4 +1,4 @@
--- What is refused of outputs.
+-- The refusals of outputs.
 use Rattle.std.specs.Prelude.{ℕ, if◌then◌else◌, List, [], ◌∷◌, ◌++◌, codes, Ok, Err}
 use Rattle.tf_config_data.specs.Names.{NameView, places}
 use Rattle.tf_graph.specs.Solutions.{seen_by}
@@ -16,12 +16,12 @@ abbrev pub output_fault : List ℕ → Answer → List RefusalView
 output_fault name (Ok t) = []
 output_fault name (Err why) = fault code.Evaluate (codes "output." ++ name) (kind why) ∷ []
 
--- An output is looked at only where nothing that it refers to was refused, nor what that needs.
+-- An output is evaluated only if nothing that it refers to was refused, nor anything that this needs.
 abbrev pub output_refusal : Entries → List NameView → (ℕ → ResolvedView) → List ℕ → expr.Tree → List RefusalView
 output_refusal variables names resolved_names name e =
     if all_stand (seen_by resolved_names (places names (named_by e))) then output_fault name (meaning (environment variables names resolved_names) e) else []
 
--- what is refused of outputs, in byte order of their names
+-- the refusals of outputs, in byte order of their names
 abbrev pub output_refusals : Entries → List NameView → (ℕ → ResolvedView) → expr.Entries → List RefusalView
 output_refusals variables names resolved_names expr.no_entries = []
 output_refusals variables names resolved_names (expr.entry name e es) = output_refusal variables names resolved_names name e ++ output_refusals variables names resolved_names es

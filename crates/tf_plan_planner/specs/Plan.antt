@@ -1,4 +1,4 @@
--- Which plan is made of a configuration and a prior state.
+-- The plan of a configuration and a prior state.
 use Rattle.std.specs.Prelude.{◌≡◌, ◌≤◌, ℕ, Bool, List, length}
 use Rattle.tf_plan_data.specs.Action.{ActionView}
 use Rattle.tf_config_data.specs.Config.{ConfigView}
@@ -18,8 +18,8 @@ use Rattle.tf_value_data.specs.Tree.{Entries}
 abbrev pub max_actions : ℕ
 max_actions = 2000
 
--- The instances are those of the expansion; the actions are those that are planned of them beside the resources of a state,
--- with nothing to refuse, and not too many; and these are late, and in this order the actions stand.
+-- The parts of a plan. The instances are those of the expansion. The actions are planned for them and the resources of
+-- a state, with no refusals, and there are at most `max_actions`. `late` and `order` are those of these actions.
 pub record IsPlannedFrom (ms : List Meaning) (resources : List ResourceView) (variables : Entries) (names : List NameView) (outputs : expr.Entries) (needs : ℕ → ℕ → Bool) (shapes : ℕ → InstanceKeysView) (actions : List ActionView) (late : ℕ → Bool) (order : Digraph) : Type 0 where
   pub instances : AreInstances variables names shapes
   pub planned : IsPlanned ms resources variables names outputs shapes (unrefused actions)

@@ -1,4 +1,4 @@
--- What is planned of a configuration beside a prior state, and what is refused.
+-- Actions and refusals for a configuration and a prior state.
 use Rattle.std.specs.Prelude.{◌≡◌, ℕ, List, [], ◌++◌, map}
 use Rattle.tf_plan_data.specs.Action.{ActionView, action_of}
 use Rattle.tf_plan_order.specs.AddressOrder.{AreInAddressOrder}
@@ -20,34 +20,34 @@ use Rattle.tf_state_data.specs.Resource.{ResourceView}
 use Rattle.tf_expr_syntax.specs.ExprTree as expr
 use Rattle.tf_value_data.specs.Tree.{Entries}
 
--- the actions that are planned, and all that is refused
+-- the planned actions, and all refusals
 pub record PlannedView : Type 0 where
   pub actions : List ActionView
   pub refusals : List RefusalView
 
--- these actions, and nothing to refuse
+-- these actions, and no refusals
 abbrev pub unrefused : List ActionView → PlannedView
 unrefused actions = record { actions = actions; refusals = [] }
 
--- The instances of each resource are those of the expansion, by what names stand for in it, and there aren't more of them than
--- may be.
+-- The instances of each resource are those of the expansion, by its resolved names, and there are at most as many as
+-- are allowed.
 pub record AreInstances (variables : Entries) (names : List NameView) (shapes : ℕ → InstanceKeysView) : Type 0 where
   pub resolved_names : ℕ → ResolvedView
   pub stand : AreResolvedNames expansion variables names resolved_names
   pub expanded : AreExpanded variables names resolved_names shapes
 
--- what is decided, and what is refused: of instances in the order in which they were decided, then of outputs
+-- the actions that are decided, and the refusals: of instances in the order in which they were decided, then of outputs
 abbrev pub with_outputs : Entries → List NameView → (ℕ → ResolvedView) → expr.Entries → DecidedView → PlannedView
 with_outputs variables names resolved_names outputs d =
     record { actions = d.actions; refusals = map instance_told d.refusals ++ output_refusals variables names resolved_names outputs }
 
--- what is planned and what is refused, with the resources in the order of these places
+-- actions and refusals, with the resources in the order of these places
 abbrev pub planned_in : List Meaning → List ResourceView → Entries → List NameView → expr.Entries → (ℕ → InstanceKeysView) → List ℕ → (ℕ → ResolvedView) → PlannedView
 planned_in ms resources variables names outputs shapes places resolved_names =
     with_outputs variables names resolved_names outputs (decided ms resources variables names shapes resolved_names (numbered names resources) places)
 
--- What is planned of these instances beside the resources of a state, and what is refused, by what names stand for where
--- resources stand for what is decided, and with the resources of both in address order.
+-- Actions and refusals for these instances and the resources of a state, by the resolved names of the plan's stage, and
+-- with the resources of both in address order.
 pub record IsPlanned (ms : List Meaning) (resources : List ResourceView) (variables : Entries) (names : List NameView) (outputs : expr.Entries) (shapes : ℕ → InstanceKeysView) (planned : PlannedView) : Type 0 where
   pub places : List ℕ
   pub in_order : AreInAddressOrder (numbered names resources) places
@@ -55,6 +55,6 @@ pub record IsPlanned (ms : List Meaning) (resources : List ResourceView) (variab
   pub stand : AreResolvedNames (deciding ms resources shapes) variables names resolved_names
   pub decided : planned_in ms resources variables names outputs shapes places resolved_names ≡ planned
 
--- without where it lies in memory
+-- planned instances as plain data
 abbrev pub planned_of : PlannedInstances → PlannedView
 planned_of p = record { actions = map action_of p.actions.items; refusals = map refusal_of p.refusals.items }

@@ -1,4 +1,4 @@
-//! What is planned of the instances of a configuration and a prior state together.
+//! The planned instances of a configuration and a prior state together.
 
 ghost use Rattle.std.specs.Prelude.{◌≡◌, ℕ, IfOk, map};
 ghost use Rattle.tf_plan_decision.specs.Rows.{AreDecided, AreOnce, gathered, rows_of};
@@ -24,7 +24,7 @@ use tf_plan_order::{ResourceIndex, address_order};
 use tf_provider_protocol::Provider;
 use tf_state_data::State;
 
-/// What is planned, and what is refused. Where anything is refused, nothing may be called.
+/// Actions and refusals. If anything is refused, no provider may be called.
 #[derive(Drop)]
 pub(crate) struct PlannedInstances {
     /// The actions of the instances that aren't refused, in address order.
@@ -33,7 +33,7 @@ pub(crate) struct PlannedInstances {
     pub(crate) refusals: Vec<Refusal>,
 }
 
-/// What is planned: a configuration beside a prior state.
+/// The input of a plan: a configuration and a prior state.
 #[derive(Drop)]
 pub(crate) struct PlanInput<'a, 'd, 'n, 'm> {
     /// The names of the configuration, which needs which, and the values of its variables.
@@ -46,7 +46,8 @@ pub(crate) struct PlanInput<'a, 'd, 'n, 'm> {
     pub(crate) resource_index: &'a ResourceIndex<'m>,
 }
 
-/// Plans the instances of a configuration and of a prior state together, where names stand for what is decided of them.
+/// Plans the instances of a configuration and of a prior state together. References to resources have the values that
+/// are decided.
 pub(crate) fn plan_instances(
     alloc: Global,
     given: &PlanInput,
@@ -64,8 +65,8 @@ pub(crate) fn plan_instances(
     plan_places(alloc, given, providers, looked, places.as_slice())
 }
 
-/// What each wanted name stands for in the plan, and what is decided of each resource. No local is evaluated that no resource
-/// and no output needs, and each instance is evaluated and decided once.
+/// Resolves each wanted name in the plan, and decides about each resource. A local is evaluated only if a resource or
+/// an output needs it, and each instance is evaluated and decided once.
 fn look_at_names(
     alloc: Global,
     given: &PlanInput,
@@ -90,7 +91,7 @@ fn look_at_names(
     decide_in_order(alloc, &stage, given.declared, wanted.as_slice())
 }
 
-/// Plans the instances of what stands at these places, in their order, by what was decided of the names.
+/// Plans the instances of the resources at these places, in their order, by the decisions about the names.
 fn plan_places(
     alloc: Global,
     given: &PlanInput,

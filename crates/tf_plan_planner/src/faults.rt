@@ -1,4 +1,4 @@
-//! What is refused alone: a resource whose instances can't be told, and what is more than may be.
+//! Refusals that are reported alone: of a resource whose instances can't be computed, and of an exceeded limit.
 
 ghost use Rattle.std.specs.Prelude.{◌≡◌, ◌<◌, ◌∷◌, [], IfOk, length, string_bytes};
 ghost use Rattle.tf_config_address.specs.ResourceAddr.{addr_of};
@@ -15,11 +15,11 @@ use tf_config_refusal::{Code, Detail, Refusal};
 use tf_expand_keys::{ExpansionFault, RepetitionFault};
 use tf_expr_eval::EvalFault;
 
-/// The refusal of a fault of the expansion.
+/// Builds the refusal of a fault of the expansion.
 ///
 /// # Errors
 ///
-/// Only where memory runs out, or ran out in the expansion.
+/// Fails only if memory runs out, or ran out in the expansion.
 pub(crate) fn expansion_refusal(
     alloc: Global,
     names: &Declarations<'_>,
@@ -38,7 +38,7 @@ pub(crate) fn expansion_refusal(
     }
 }
 
-/// The refusal of a resource whose instances can't be told.
+/// Builds the refusal of a resource whose instances can't be computed.
 fn instances_refusal(
     alloc: Global,
     addr: &ResourceAddr,
@@ -55,11 +55,11 @@ fn instances_refusal(
     }
 }
 
-/// The refusal of what is more than may be.
+/// Builds the refusal of an exceeded limit.
 ///
 /// # Errors
 ///
-/// Only where memory runs out.
+/// Fails only if memory runs out.
 pub(crate) fn limit_refusal(alloc: Global) -> Result<Refusal, AllocError>
     ensures { IfOk result (λ refusal. refusal_of refusal ≡ beyond_limit) }
 {
@@ -67,7 +67,7 @@ pub(crate) fn limit_refusal(alloc: Global) -> Result<Refusal, AllocError>
     Ok(bare(Code::Limit, place))
 }
 
-/// An evaluation at a place failed.
+/// Builds the refusal of a failed evaluation at a place.
 pub(crate) fn evaluation(place: String, why: EvalFault) -> Refusal
     ensures { refusal_of result ≡ fault Evaluate (string_bytes place) (kind why) }
 {
@@ -78,7 +78,7 @@ pub(crate) fn evaluation(place: String, why: EvalFault) -> Refusal
     }
 }
 
-/// A fault at a place of which nothing more is told.
+/// Builds the refusal of a fault at a place without detail.
 pub(crate) fn bare(code: Code, place: String) -> Refusal
     ensures { refusal_of result ≡ fault code (string_bytes place) bare }
 {
@@ -89,11 +89,11 @@ pub(crate) fn bare(code: Code, place: String) -> Refusal
     }
 }
 
-/// The answer that tells of one refusal.
+/// Returns one refusal as the only one.
 ///
 /// # Errors
 ///
-/// Only where memory runs out.
+/// Fails only if memory runs out.
 pub(crate) fn alone(alloc: Global, refusal: Refusal) -> Result<Refused, AllocError>
     ensures { IfOk result (Tells (λ refusal_views. refusal_views ≡ refusal_of refusal ∷ [])) }
 {

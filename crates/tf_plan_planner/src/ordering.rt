@@ -24,7 +24,7 @@ pub(crate) struct Ordered {
     pub(crate) order: Order,
 }
 
-/// The order of these actions, or the refusal of so many pairs.
+/// Orders these actions, or refuses them because there are too many pairs.
 pub(crate) fn order_actions(
     alloc: Global,
     declared: &Module,
@@ -55,8 +55,8 @@ pub(crate) fn order_actions(
     Ok(Ordered { late, order })
 }
 
-/// The order of actions that destroy nothing, where no resource is marked, or the refusal of so many pairs. What the state has
-/// stored puts none of them before another then and makes no resource late, so it isn't looked at.
+/// Orders actions that destroy nothing, if no resource is marked, or refuses them because there are too many pairs. In
+/// that case what the state has stored orders no actions and makes no resource late, so it isn't used.
 fn order_applied(
     alloc: Global,
     dependence: &Dependence,
@@ -80,7 +80,7 @@ fn order_applied(
     })
 }
 
-/// Whether each of these actions creates or updates an object.
+/// Checks whether each of these actions creates or updates an object.
 fn are_applied(actions: &[Action]) -> bool
     ensures { result ≡ list_all is_applied (map action_of actions.now) }
 {
@@ -92,14 +92,14 @@ fn are_applied(actions: &[Action]) -> bool
     true
 }
 
-/// Whether any resource is marked.
+/// Checks whether any resource is marked.
 fn is_any_marked(marked: &[bool]) -> bool
     ensures { result ≡ list_any (λ m. m) marked.now }
 {
     marked.iter().any(|mark| *mark)
 }
 
-/// The order of these actions by what ties their resources together, or the refusal of so many pairs.
+/// Orders these actions by the relations of their resources, or refuses them because there are too many pairs.
 fn order_by(
     alloc: Global,
     dependence: &Dependence,
@@ -130,7 +130,7 @@ fn order_by(
     }
 }
 
-/// The actions as their order sees them.
+/// Returns the actions as their order sees them.
 fn ordered_of(
     alloc: Global,
     actions: &[Action],

@@ -1,4 +1,4 @@
-//! What is refused of outputs.
+//! The refusals of outputs.
 
 ghost use Rattle.std.specs.Prelude.{◌≡◌, ◌++◌, OnOk, map};
 ghost use Rattle.tf_plan_data.specs.Words.{entries_view, names_in, resolved_names_of};
@@ -14,7 +14,7 @@ use tf_expand_keys::{Module, NamesScope, Resolved, all_stand};
 use tf_expr_eval::{EvalFault, find_expr};
 use tf_expr_syntax::Expr;
 
-/// Adds what is refused of outputs, by these resolved names.
+/// Adds the refusals of outputs, by these resolved names.
 pub(crate) fn add_outputs(
     alloc: Global,
     refusals: &mut Vec<Refusal>,
@@ -31,7 +31,7 @@ pub(crate) fn add_outputs(
     Ok(())
 }
 
-/// Adds the refusal of an output whose value can't be evaluated, where all that it refers to stands for something.
+/// Adds the refusal of an output whose value can't be evaluated, if all that it refers to resolves.
 fn add_output(
     alloc: Global,
     refusals: &mut Vec<Refusal>,

@@ -1,90 +1,102 @@
 //! The planner.
 
-ghost use Rattle.std.specs.Prelude.{◌≡◌, ◌≤◌, ◌<◌, ◌+◌, ◌^◌, IfOk, IfErr, false, length, map, slice_index_or};
+ghost use Rattle.std.specs.Prelude.{◌≡◌, ◌≤◌, ◌+◌, IfOk, IfErr, OnOk, false, length, map, slice_index_or};
 ghost use Rattle.tf_plan_data.specs.Words.{a_name, action_of, AreApart, AreServed, config_of, entries_view, IsAcyclic, IsDependence, names_in, names_of, needs_in, numbered_in, plan_of, shapes_of, state_of};
+ghost use Rattle.tf_state.specs.Table.{IsPlannable};
 ghost use Rattle.tf_plan_planner.specs.Input.{IsGiven, names_given, outputs_given, resources_given, variables_given};
 ghost use Rattle.tf_plan_planner.specs.Plan.{IsPlan, IsPlannedFrom, max_actions};
 ghost use Rattle.tf_plan_planner.specs.Planned.{AreInstances, IsPlanned, planned_of, unrefused};
-ghost use Rattle.tf_plan_planner.specs.Refused.{AreRefused, AreRefusedIn, AreRefusedOf, AreRefusedOfSome, AreUnexpanded, Tells};
+ghost use Rattle.tf_plan_planner.specs.Refused.{ArePlanRefusals, AreRefused, AreRefusedIn, AreRefusedOf, AreRefusedOfSome, AreUnexpanded, Tells};
 
 use crate::deciding::{PlanInput, PlannedInstances, plan_instances};
 use crate::faults::{alone, expansion_refusal, limit_refusal};
 use crate::ordering::{Ordered, order_actions};
-use crate::refused::Refused;
+use crate::refused::{Refused, Unplanned};
 use std::alloc::Global;
 use std::collections::BTreeMap;
+use tf_cli_inputs::{Configuration, ConfigurationParts, Vars, at_state};
 use tf_config_data::Config;
 use tf_config_names::{Declarations, Dependence};
+use tf_config_refusal::Code;
 use tf_expand_keys::{InstanceKeys, Module, ModuleParts, expand};
 use tf_graph::MAX_NODES;
 use tf_plan_data::{Action, Plan, Planned};
 use tf_plan_order::{Order, ResourceIndex};
 use tf_provider_protocol::Provider;
+use tf_state::is_plannable;
 use tf_state_data::State;
 use tf_value_data::Value;
 
 /// The most actions that a plan may have.
 pub const MAX_ACTIONS: usize = 2_000;
 
-/// Plans a configuration, whose variables have these values, beside a prior state: what is done about each instance that
-/// either has, in address order. The provider of a type is the first in the list with a schema for it. `dependence` says
-/// which name of the configuration needs which, and none needs itself.
+/// Plans a configuration, whose variables have these values, from a prior state: the actions for each instance that
+/// either has, in address order. The provider of a type is the first in the list with a schema for it.
 ///
 /// # Errors
 ///
-/// Refused is, in this order: at `TYPE.NAME` the first resource whose instances can't be told, with 6 for a bad
-/// `count`, 7 for a bad `for_each`, 8 where either isn't known yet, and 9 where it can't be evaluated; with 14 at
-/// `configuration` more than 2,000 instances; all that is refused of instances, in address order, and then of outputs,
-/// where that is anything; with 14 at `configuration` more than 2,000 actions, and more than 200,000 pairs of actions of
-/// which one is before the other. An instance is refused at its address with 11 where no provider has its type, with 13
-/// where an object of it doesn't fit the schema, with 9 or 10 for what is wrong with its arguments, and with 12 where an
-/// object would be destroyed that may not be. `NoMemory` may be told in place of any answer.
+/// Fails with the inputs, unchanged, and with the first of these, in the order of the checks. `NoMemory` may be returned
+/// instead of any result.
+/// - 14 at `state`: a state with more than 4,000 resources, or with the last serial.
+/// - 6, 7, 8 or 9 at `TYPE.NAME`, for the first resource whose instances can't be computed: 6 for a bad `count`, 7 for
+///   a bad `for_each`, 8 if either isn't known yet, and 9 if it can't be evaluated.
+/// - 14 at `configuration`: more than 2,000 instances.
+/// - All refusals of instances, in address order, and then of outputs. An instance is refused at its address with 11 if
+///   no provider has its type, with 13 if an object of it doesn't fit the schema, with 9 or 10 for a fault of its
+///   arguments, and with 12 if an object with `prevent_destroy` would be destroyed.
+/// - 14 at `configuration`: more than 2,000 actions, or more than 200,000 pairs of actions, one before the other.
 pub fn plan(
     alloc: Global,
     prior: State,
-    config: Config,
-    variables: BTreeMap<String, Value>,
-    dependence: Dependence,
+    configuration: Configuration,
+    variables: Vars,
     providers: &[Box<dyn Provider + Sync>],
-) -> Result<Planned, Refused>
-    requires dependence { IsDependence (names_of (config_of config)) dependence }
-    requires acyclic { IsAcyclic dependence }
-    requires few { length (names_of (config_of config)) + length (state_of prior).resources ≤ MAX_NODES }
-    requires serial { (state_of prior).serial + 1 < 2 ^ 32 }
-    ensures planned { IfOk result (λ p. IsPlan (map meaning providers.now) (config_of config) (entries_view variables.entries) (state_of prior) (plan_of p)) }
+) -> Result<Planned, Unplanned>
+    ensures planned { IfOk result (λ p. IsPlan (map meaning providers.now) (config_of configuration.config) (entries_view variables.entries) (state_of prior) (plan_of p)) }
     ensures served { IfOk result (λ p. AreServed (map meaning providers.now) (map action_of p.actions.items)) }
-    ensures refused { IfErr result (Tells (AreRefused (map meaning providers.now) (config_of config) (entries_view variables.entries) (state_of prior))) }
+    ensures refused { IfErr result (λ unplanned. Tells (ArePlanRefusals (map meaning providers.now) (config_of configuration.config) (entries_view variables.entries) (state_of prior)) unplanned.refused) }
+    ensures unchanged { IfErr result (λ unplanned. (unplanned.prior ≡ prior) × (unplanned.configuration ≡ configuration) × (unplanned.variables ≡ variables)) }
 {
-    blocks_are_apart(&config);
-    let parts = plan_parts(alloc, &prior, &config, &variables, &dependence, providers)?;
-    let PlannedParts {
-        shapes,
-        actions,
-        late,
-        order,
-    } = parts;
-    Ok(Planned {
-        plan: Plan {
+    blocks_are_apart(&configuration.parts.config);
+    match limited_parts(alloc, &prior, &configuration, &variables, providers) {
+        Ok(parts) => {
+            let PlannedParts {
+                shapes,
+                actions,
+                late,
+                order,
+            } = parts;
+            let ConfigurationParts { config, dependence } = configuration.parts;
+            Ok(Planned {
+                plan: Plan {
+                    prior,
+                    config,
+                    variables,
+                    dependence,
+                    shapes,
+                    late,
+                    actions,
+                    order,
+                },
+            })
+        }
+        Err(refused) => Err(Unplanned {
             prior,
-            config,
+            configuration,
             variables,
-            dependence,
-            shapes,
-            late,
-            actions,
-            order,
-        },
-    })
+            refused,
+        }),
+    }
 }
 
-/// No two blocks of a configuration are at one address, as it has them in a map. It does nothing.
+/// Shows that no two blocks of a configuration have the same address, because they are in a map. It does nothing.
 fn blocks_are_apart(config: &Config)
     ensures { AreApart (map a_name (names_of (config_of config.now))) }
 {
     let _ = config.resources.len();
 }
 
-/// What is worked out for a plan.
+/// The computed parts of a plan.
 #[derive(Drop)]
 struct PlannedParts {
     shapes: Vec<InstanceKeys>,
@@ -93,7 +105,35 @@ struct PlannedParts {
     order: Order,
 }
 
-/// Works out what a plan of a configuration holds.
+/// Computes the parts of a configuration's plan, if the prior state is within the limits.
+fn limited_parts(
+    alloc: Global,
+    prior: &State,
+    configuration: &Configuration,
+    variables: &Vars,
+    providers: &[Box<dyn Provider + Sync>],
+) -> Result<PlannedParts, Refused>
+    ensures within { OnOk result (IsPlannable (state_of prior.now)) }
+    ensures planned { IfOk result (λ parts. IsPlannedFrom (map meaning providers.now) (state_of prior.now).resources (entries_view variables.now.entries) (names_of (config_of configuration.now.config)) (config_of configuration.now.config).outputs
+        (needs_in configuration.now.dependence) (shapes_of parts.shapes.items) (map action_of parts.actions.items) (λ n. slice_index_or parts.late.items n false) parts.order) }
+    ensures refused { IfErr result (Tells (ArePlanRefusals (map meaning providers.now) (config_of configuration.now.config) (entries_view variables.now.entries) (state_of prior.now))) }
+{
+    if !is_plannable(prior) {
+        let refusal = at_state(alloc, Code::Limit)?;
+        return Err(alone(alloc, refusal)?);
+    }
+    let parts = &configuration.parts;
+    plan_parts(
+        alloc,
+        prior,
+        &parts.config,
+        variables,
+        &parts.dependence,
+        providers,
+    )
+}
+
+/// Computes the parts of a configuration's plan.
 fn plan_parts<'a>(
     alloc: Global,
     prior: &'a State,
@@ -127,7 +167,7 @@ fn plan_parts<'a>(
     plan_given(alloc, &given, providers)
 }
 
-/// Works out what a plan holds.
+/// Computes the parts of a plan.
 fn plan_given(
     alloc: Global,
     given: &PlanInput,
@@ -156,7 +196,7 @@ fn plan_given(
     })
 }
 
-/// How the instances of each resource stand together, or the refusal of that.
+/// Returns the instance keys of each resource, or the refusal of the expansion.
 fn expanded(alloc: Global, declared: &Module) -> Result<Vec<InstanceKeys>, Refused>
     ensures instances { IfOk result (λ shapes. AreInstances (entries_view declared.now.variables.now.entries) (names_in declared.now.names.now) (shapes_of shapes.items)) }
     ensures refused { IfErr result (Tells (AreUnexpanded (entries_view declared.now.variables.now.entries) (names_in declared.now.names.now))) }
@@ -171,7 +211,7 @@ fn expanded(alloc: Global, declared: &Module) -> Result<Vec<InstanceKeys>, Refus
     }
 }
 
-/// The actions of these instances, or what is refused of them.
+/// Returns the actions of these instances, or the refusals.
 fn decided_actions(
     alloc: Global,
     given: &PlanInput,
@@ -189,7 +229,7 @@ fn decided_actions(
     actions_of(alloc, planned)
 }
 
-/// The actions, where nothing is refused and they aren't too many; else what is refused.
+/// Returns the actions if nothing is refused and there aren't too many actions, or else the refusals.
 fn actions_of(alloc: Global, planned: PlannedInstances) -> Result<Vec<Action>, Refused>
     ensures fine { IfOk result (λ actions. planned_of planned ≡ unrefused (map action_of actions.items)) }
     ensures few { IfOk result (λ actions. length actions.items ≤ max_actions) }

@@ -14,7 +14,7 @@ use tf_plan_data::address_text;
 use tf_plan_decision::{DecisionFault, PriorFault, RefusedInstance};
 use tf_plan_object::{ArgumentFault, InstanceFault};
 
-/// The refusals of instances, in their order.
+/// Builds the refusals of instances, in their order.
 pub(crate) fn refusals_of(
     alloc: Global,
     instances: Vec<RefusedInstance>,
@@ -28,7 +28,7 @@ pub(crate) fn refusals_of(
     Ok(refusals)
 }
 
-/// The refusal of an instance.
+/// Builds the refusal of an instance.
 fn instance_refusal(alloc: Global, instance: RefusedInstance) -> Result<Refusal, AllocError>
     ensures { IfOk result (λ refusal. refusal_of refusal ≡ instance_told (refused_of instance)) }
 {
@@ -42,7 +42,7 @@ fn instance_refusal(alloc: Global, instance: RefusedInstance) -> Result<Refusal,
     }
 }
 
-/// The refusal of a prior object of the instance at an address that doesn't fit.
+/// Builds the refusal of a prior object of the instance at an address that doesn't fit.
 fn unfit(alloc: Global, address: String, fault: PriorFault) -> Result<Refusal, AllocError>
     ensures { IfOk result (λ refusal. refusal_of refusal ≡ unfit_told (string_bytes address) (prior_fault_of fault)) }
 {
@@ -55,7 +55,7 @@ fn unfit(alloc: Global, address: String, fault: PriorFault) -> Result<Refusal, A
     }
 }
 
-/// The refusal of what is wrong with what is planned for the instance at an address.
+/// Builds the refusal of a fault in what is planned for the instance at an address.
 fn faulty(alloc: Global, address: String, fault: InstanceFault) -> Result<Refusal, AllocError>
     ensures { IfOk result (λ refusal. refusal_of refusal ≡ fault_told (string_bytes address) (instance_fault_of fault)) }
 {
@@ -68,7 +68,7 @@ fn faulty(alloc: Global, address: String, fault: InstanceFault) -> Result<Refusa
     }
 }
 
-/// The place of an attribute of the instance at an address.
+/// Returns the place of an attribute of the instance at an address.
 fn attribute_place(alloc: Global, address: String, name: String) -> Result<String, AllocError>
     ensures { IfOk result (λ place. string_bytes place ≡ string_bytes address ++ 46 ∷ string_bytes name) }
 {
@@ -77,7 +77,7 @@ fn attribute_place(alloc: Global, address: String, name: String) -> Result<Strin
     format!(in alloc; "{address}.{name}")
 }
 
-/// The refusal of an argument at its place.
+/// Builds the refusal of an argument at its place.
 fn argument(place: String, fault: ArgumentFault) -> Refusal
     ensures { refusal_of result ≡ argument_told (string_bytes place) fault }
 {

@@ -1,4 +1,4 @@
-//! Which names a plan looks at.
+//! The names that a plan evaluates.
 
 ghost use Rattle.std.specs.List.{AllByRecursion};
 ghost use Rattle.std.specs.Prelude.{◌≡◌, ◌<◌, ◌↔◌, ◌||◌, ◌⊎◌, ℕ, IfOk, true, false, length, replicate, Contains};
@@ -15,7 +15,7 @@ use tf_config_names::Declarations;
 use tf_expand_keys::{Module, is_marked, mark, needed_by, needed_by_resources, none_marked};
 use tf_expr_syntax::Expr;
 
-/// For each place, whether the name there is wanted: a resource or an output needs it.
+/// Returns for each place whether the name there is wanted: a resource or an output needs it.
 pub(crate) fn wanted_names(
     alloc: Global,
     declared: &Module,
@@ -39,14 +39,14 @@ pub(crate) fn wanted_names(
     Ok(wanted)
 }
 
-/// Whether a place is marked in one of three lists.
+/// Checks whether a place is marked in one of three lists.
 fn is_either(one: &[bool], other: &[bool], third: &[bool], place: usize) -> bool
     ensures { result ≡ has one.now place || has other.now place || has third.now place }
 {
     is_marked(one, place) || is_marked(other, place) || is_marked(third, place)
 }
 
-/// For each place, whether an output names what stands there.
+/// Returns for each place whether an output names the name there.
 fn named_by_outputs(
     alloc: Global,
     names: &Declarations<'_>,
@@ -60,7 +60,7 @@ fn named_by_outputs(
     Ok(named)
 }
 
-/// The places of what outputs name, as often as they do. What isn't declared is left out.
+/// Returns the places of the names in outputs, once for each reference. What isn't declared is left out.
 fn places_in_outputs(
     alloc: Global,
     names: &Declarations<'_>,

@@ -8,8 +8,8 @@ use Rattle.tf_plan_text.specs.Text.{replace_symbol}
 use Rattle.tf_plan_text.specs.Reduction.{IsReduction, LeadsAlike, NoneFollows}
 use Rattle.tf_plan_text.specs.Quoted.{escaped}
 
--- What the node of a step about an instance with an address says: the symbol and the address as the plan's text has them. That
--- text has one line for the two halves of a replace; here each says which half it is.
+-- The label of a step about an instance with an address: the symbol and the address as in the plan's text. That text
+-- has one line for the two halves of a replace, but here each label says which half it is.
 abbrev pub label : Bool → List ℕ → StepView → List ℕ
 label late address (create asked) = codes "+ " ++ address
 label late address (update prior asked names) = codes "~ " ++ address
@@ -18,11 +18,11 @@ label late address (replaced prior) = replace_symbol late ++ address ++ codes " 
 label late address (destroyed prior) = codes "- " ++ address
 label late address (deposed_destroyed key prior) = codes "- " ++ address ++ codes " (deposed " ++ key ++ codes ")"
 
--- what the node of an action says, where it is told of each resource whether it is late
+-- the label of an action's node, by which resources are late
 abbrev pub node_label : (ℕ → Bool) → ActionView → List ℕ
 node_label late a = label (late a.resource) (address_text a.addr a.key) a.step
 
--- the name of an action's node, which is the action's place in the plan, and what stands before its label
+-- the name of an action's node, which is the action's place in the plan, and the text before its label
 abbrev pub node_opening : ℕ → List ℕ
 node_opening place = codes "    " ++ decimal place ++ codes " [label = \""
 
@@ -30,7 +30,7 @@ node_opening place = codes "    " ++ decimal place ++ codes " [label = \""
 abbrev pub node_line : (ℕ → Bool) → ℕ → ActionView → List ℕ
 node_line late place a = node_opening place ++ (escaped (node_label late a) ++ codes "\"]\n")
 
--- the lines of actions, of which the first has this place
+-- the lines of actions, the first of which has this place
 abbrev pub node_lines : (ℕ → Bool) → ℕ → List ActionView → List ℕ
 node_lines late place [] = []
 node_lines late place (a ∷ others) = node_line late place a ++ node_lines late (suc place) others
@@ -44,8 +44,8 @@ abbrev pub graph_text : (ℕ → Bool) → List ActionView → List (ℕ × ℕ)
 graph_text late actions edges =
     codes "digraph plan {\n    rankdir = LR\n    node [shape = box]\n" ++ node_lines late 0 actions ++ flat_map edge_line edges ++ codes "}\n"
 
--- The text draws a plan: its actions, and of its order exactly the pairs that don't follow from others. The closure of what is
--- drawn is that of the order, and no edge that is drawn follows from the others.
+-- The text draws a plan: its actions, and exactly those pairs of its order that don't follow from others. The closure
+-- of the drawn edges is that of the order, and no drawn edge follows from the others.
 pub record IsDrawn (plan : PlanView) (text : List ℕ) : Type 0 where
   pub edges : List (ℕ × ℕ)
   pub reduction : IsReduction plan.order edges

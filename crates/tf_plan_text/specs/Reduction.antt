@@ -3,12 +3,12 @@ use Rattle.std.specs.Prelude.{◌≡◌, ◌≢◌, ◌↔◌, ℕ, Bool, true, 
 use Rattle.tf_graph.specs.Digraph.{Digraph}
 use Rattle.tf_graph.specs.Path.{Path, HasEdge, Reaches}
 
--- a path of two edges or more leads from a to b, so that an edge from a to b says nothing new
+-- a path of two edges or more leads from a to b, so that an edge from a to b adds nothing
 abbrev pub Follows : Digraph → ℕ → ℕ → Type 0
 Follows g a b = (c : ℕ) × HasEdge g a c × Reaches g c b
 
--- The kept edges are exactly those edges of the graph that don't follow, in their order there. (The test says of each two numbers
--- whether a path of two edges or more leads from the one to the other.)
+-- The kept edges are exactly those edges of the graph that don't follow, in their order there. (The test says for any
+-- two numbers whether a path of two edges or more leads from the one to the other.)
 pub record IsReduction (g : Digraph) (edges : List (ℕ × ℕ)) : Type 0 where
   pub follows : ℕ × ℕ → Bool
   pub tested : (a b : ℕ) → (follows (a, b) ≡ true) ↔ Follows g a b
@@ -18,7 +18,7 @@ pub record IsReduction (g : Digraph) (edges : List (ℕ × ℕ)) : Type 0 where
 abbrev pub IsAmong : List (ℕ × ℕ) → ℕ → ℕ → Type 0
 IsAmong edges a b = Contains edges (a, b)
 
--- by the kept edges a node reaches just what it reaches by all of the graph: the closure of these is the closure of those
+-- by the kept edges a node reaches exactly what it reaches in the graph: both have the same closure
 abbrev pub LeadsAlike : Digraph → List (ℕ × ℕ) → Type 0
 LeadsAlike g kept = (a b : ℕ) → Path (IsAmong kept) a b ↔ Reaches g a b
 

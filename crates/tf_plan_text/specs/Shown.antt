@@ -5,12 +5,12 @@ use Rattle.json.specs.Print.{quoted}
 use Rattle.serde_json.specs.Written.{comma_if}
 use Rattle.tf_value_data.specs.Tree.{Tree, null, boolean, whole, text, list, map, set, unknown, Items, no_items, item, Entries, no_entries, entry}
 
--- the texts of a set, as an array's
+-- the texts of a set, written as those of an array
 abbrev pub shown_texts : Bool → List (List ℕ) → List ℕ
 shown_texts later [] = 93 ∷ []
 shown_texts later (s ∷ ss) = comma_if later ++ (quoted s ++ shown_texts true ss)
 
--- A value's compact JSON text, with `(known after apply)` where a part isn't known yet. The texts of items and
+-- A value's compact JSON text, with `(known after apply)` for each part that isn't known yet. The texts of items and
 -- entries end with the closing bracket.
 abbrev mutual
   pub shown : Tree → List ℕ

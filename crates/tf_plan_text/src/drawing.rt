@@ -13,13 +13,13 @@ use crate::text::replace_symbol;
 use std::alloc::{AllocError, Global};
 use tf_plan_data::{Action, Plan, Step, address_text};
 
-/// The order of a plan's actions, as a text in Graphviz's DOT. Each action is a node, named by its place in the plan, with the
-/// symbol and the address that the plan's text has for it. The edges are those pairs of the order that don't follow from
-/// others: where a path leads from one action to another, the one is carried out before the other.
+/// Returns the order of a plan's actions, as a text in Graphviz's DOT. Each action is a node, named by its place in the
+/// plan, with the symbol and the address that the plan's text has for it. The edges are the pairs of the order that
+/// don't follow from others. If a path leads from one action to another, the first is carried out before the other.
 ///
 /// # Errors
 ///
-/// Only where memory runs out.
+/// Fails only if memory runs out.
 pub fn dot_text(alloc: Global, plan: &Plan) -> Result<String, AllocError>
     ensures { IfOk result (λ text. IsDrawn (plan_of plan.now) (string_bytes text)) }
 {
@@ -70,14 +70,14 @@ fn push_node(
     text.push_str("\"]\n")
 }
 
-/// Adds what stands before an action's label.
+/// Adds the text before an action's label.
 fn push_opening(text: &mut String, place: usize) -> Result<(), AllocError>
     ensures { OnOk result (string_bytes text.new ≡ string_bytes text.old ++ node_opening place) }
 {
     write!(text, "    {place} [label = \"")
 }
 
-/// Adds what stands between the quotes of an action's label.
+/// Adds an action's label, which is put between quotes.
 fn push_label(
     alloc: Global,
     text: &mut String,
@@ -90,7 +90,7 @@ fn push_label(
     push_escaped(text, label.as_str())
 }
 
-/// What an action's node says.
+/// Returns the label of an action's node.
 fn node_label(alloc: Global, action: &Action, late: &[bool]) -> Result<String, AllocError>
     ensures { IfOk result (λ text. string_bytes text ≡ node_label (λ n. slice_index_or late.now n false) (action_of action.now)) }
 {

@@ -1,5 +1,5 @@
-//! What a plan is shown as: its text, from any prior state, and its order as a graph for Graphviz. The graph leaves out the
-//! edges that follow from others: it is the transitive reduction of the order.
+//! The texts of a plan: the plan for the user, from any prior state, and its order as a graph for Graphviz. The graph
+//! leaves out the edges that follow from others: it is the transitive reduction of the order.
 #![tactic(auto)]
 
 mod drawing;

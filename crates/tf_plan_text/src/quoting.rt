@@ -6,7 +6,7 @@ ghost use Rattle.tf_plan_text.specs.Quoted.{escaped, escaped_chars};
 
 use std::alloc::AllocError;
 
-/// Adds what stands for a text between quotes.
+/// Adds a text as it is written between quotes.
 pub(crate) fn push_escaped(out: &mut String, text: &str) -> Result<(), AllocError>
     ensures { OnOk result (string_bytes out.new ≡ string_bytes out.old ++ escaped text.now) }
 {

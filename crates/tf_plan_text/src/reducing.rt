@@ -1,4 +1,4 @@
-//! Which edges of a graph don't follow from others.
+//! The edges of a graph that don't follow from others.
 
 ghost use Rattle.std.specs.Prelude.{◌≡◌, ◌<◌, ◌++◌, ◌∷◌, [], ℕ, length, not, filter, cond, IfOk, OnOk};
 ghost use Rattle.tf_graph.specs.Digraph.{IsWithin};
@@ -12,13 +12,13 @@ use crate::rows::all_rows;
 use std::alloc::{AllocError, Global};
 use tf_graph::{Graph, NodeSet};
 
-/// The edges of a graph without cycles that don't follow from others: no path of two edges or more leads from the one end to
-/// the other. They stand in the order of the graph's edges. They lead from each node to just the nodes that all edges lead to,
-/// and without any one of them its ends aren't joined.
+/// Returns the edges of a graph without cycles that don't follow from others: no path of two edges or more leads from
+/// the one end to the other. They are in the order of the graph's edges. From each node they lead to exactly the nodes
+/// that all edges lead to, and without any one of them its ends aren't connected.
 ///
 /// # Errors
 ///
-/// Only where memory runs out.
+/// Fails only if memory runs out.
 pub fn reduction(alloc: Global, graph: &Graph) -> Result<Vec<(usize, usize)>, AllocError>
     requires { IsAcyclic graph.now }
     ensures exact { IfOk result (λ kept. IsReduction graph.now kept.items) }
@@ -31,7 +31,7 @@ pub fn reduction(alloc: Global, graph: &Graph) -> Result<Vec<(usize, usize)>, Al
     direct_edges(alloc, graph.edges(), beyond.as_slice())
 }
 
-/// For each node the nodes that its successors reach.
+/// Returns for each node the nodes that its successors reach.
 fn all_beyond(alloc: Global, graph: &Graph, rows: &[NodeSet]) -> Result<Vec<NodeSet>, AllocError>
     requires count { length rows.now ≡ graph.now.nodes }
     requires long { AreLong graph.now.nodes rows.now }
@@ -47,7 +47,7 @@ fn all_beyond(alloc: Global, graph: &Graph, rows: &[NodeSet]) -> Result<Vec<Node
     Ok(sets)
 }
 
-/// The nodes that the successors of a node reach.
+/// Returns the nodes that the successors of a node reach.
 fn beyond(
     alloc: Global,
     graph: &Graph,
@@ -67,7 +67,7 @@ fn beyond(
     Ok(set)
 }
 
-/// The edges whose target isn't among the nodes that the successors of its source reach.
+/// Returns the edges whose target isn't among the nodes that the successors of its source reach.
 fn direct_edges(
     alloc: Global,
     edges: &[(usize, usize)],
@@ -84,7 +84,7 @@ fn direct_edges(
     Ok(kept)
 }
 
-/// Keeps an edge, if its target isn't among the nodes that the successors of its source reach.
+/// Keeps an edge if its target isn't among the nodes that the successors of its source reach.
 fn keep_if_direct(
     kept: &mut Vec<(usize, usize)>,
     edge: (usize, usize),

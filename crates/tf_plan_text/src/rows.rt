@@ -1,4 +1,4 @@
-//! What each node of a graph reaches, as sets.
+//! The nodes that each node of a graph reaches, as sets.
 
 ghost use Rattle.std.specs.Prelude.{◌≡◌, ◌<◌, ℕ, length, IfOk};
 ghost use Rattle.tf_graph.specs.Closure.{reaches};
@@ -8,7 +8,7 @@ ghost use Rattle.tf_graph.specs.Search.{row_of, AreLong};
 use std::alloc::{AllocError, Global};
 use tf_graph::{Closure, NodeSet};
 
-/// For each node the set of the nodes that it reaches.
+/// Returns for each node the set of the nodes that it reaches.
 pub(crate) fn all_rows(alloc: Global, closure: &Closure) -> Result<Vec<NodeSet>, AllocError>
     ensures count { IfOk result (λ rows. length rows.items ≡ closure.now.nodes) }
     ensures long { IfOk result (λ rows. AreLong closure.now.nodes rows.items) }
@@ -22,7 +22,7 @@ pub(crate) fn all_rows(alloc: Global, closure: &Closure) -> Result<Vec<NodeSet>,
     Ok(rows)
 }
 
-/// The nodes that a node reaches.
+/// Returns the nodes that a node reaches.
 fn row(alloc: Global, closure: &Closure, node: usize) -> Result<NodeSet, AllocError>
     ensures length { IfOk result (λ set. length set ≡ closure.now.nodes) }
     ensures row { IfOk result (λ set. (b : ℕ) → has set b ≡ reaches closure.now node b) }

@@ -12,8 +12,8 @@ use std::alloc::{AllocError, Global};
 use std::collections::{BTreeMap, BTreeSet};
 use tf_value_data::Value;
 
-/// Writes a value's compact JSON text at the end of a text, with `(known after apply)` for each part that
-/// isn't known yet.
+/// Writes a value's compact JSON text at the end of a text, with `(known after apply)` for each part that isn't known
+/// yet.
 #[cycle(show)]
 pub fn show_value(alloc: Global, text: &mut String, value: &Value) -> Result<(), AllocError>
     ensures { OnOk result (string_bytes text.new ≡ string_bytes text.old ++ shown (tree_of value.now)) }
@@ -97,14 +97,14 @@ fn show_unknown(text: &mut String) -> Result<(), AllocError>
     text.push_str("(known after apply)")
 }
 
-/// A comma, where something stands before.
+/// Adds a comma if an element comes before.
 fn comma(text: &mut String, later: bool) -> Result<(), AllocError>
     ensures { OnOk result (string_bytes text.new ≡ string_bytes text.old ++ comma_if later) }
 {
     if later { text.push(',') } else { Ok(()) }
 }
 
-/// A text in quotes, with JSON's escapes. One that needs none is written as it stands.
+/// Adds a text in quotes, with JSON's escapes. A text that needs no escapes is copied.
 fn show_text(alloc: Global, text: &mut String, content: &str) -> Result<(), AllocError>
     ensures { OnOk result (string_bytes text.new ≡ string_bytes text.old ++ quoted content.now) }
 {
@@ -117,7 +117,7 @@ fn show_text(alloc: Global, text: &mut String, content: &str) -> Result<(), Allo
     }
 }
 
-/// Whether no byte of a text is written otherwise between quotes.
+/// Checks whether each byte of a text is written as it is between quotes.
 fn stands_for_itself(content: &str) -> bool
     ensures { result ≡ true → escape content.now ≡ content.now }
 {

@@ -12,14 +12,15 @@ use std::collections::BTreeMap;
 use tf_plan_data::{Action, Step, address_text};
 use tf_value_data::Value;
 
-/// What the actions of a plan do, for the user: a line for each instance that is changed and for each deposed object that is
-/// destroyed, with a symbol and the address, and below it the attributes of a new object that aren't null, or those that are
-/// changed. A replace has one line; `late` says of each resource by its number whether the old object is destroyed after the
-/// new one is made. Last, how many objects are added, changed and destroyed. Without actions the text is `No changes.`.
+/// Returns the text of a plan's actions for the user. It has a line for each instance that is changed and for each
+/// deposed object that is destroyed, with a symbol and the address. The lines below it show the attributes of a new
+/// object that aren't null, or those that are changed. A replace has one line. `late` gives for each resource, by its
+/// number, whether the old object is destroyed after the new one is created. The last line counts the objects that are
+/// added, changed and destroyed. Without actions the text is `No changes.`.
 ///
 /// # Errors
 ///
-/// Only where memory runs out.
+/// Fails only if memory runs out.
 pub fn plan_text(alloc: Global, actions: &[Action], late: &[bool]) -> Result<String, AllocError>
     ensures { IfOk result (λ text. string_bytes text ≡ plan_text (λ n. slice_index_or late.now n false) (map action_of actions.now)) }
 {
@@ -76,7 +77,7 @@ fn show_step(
     }
 }
 
-/// What stands before the address of an object that is replaced.
+/// Returns the symbol before the address of an object that is replaced.
 pub(crate) fn replace_symbol(is_late: bool) -> &'static str
     ensures { result.now ≡ replace_symbol is_late }
 {
@@ -120,7 +121,7 @@ fn show_attribute(
     }
 }
 
-/// Shows the attributes of these names, as they become.
+/// Shows the attributes of these names, with their new values.
 fn show_changes(
     alloc: Global,
     text: &mut String,
@@ -158,7 +159,7 @@ fn show_line(alloc: Global, text: &mut String, name: &str, value: &Value) -> Res
     text.push('\n')
 }
 
-/// How many objects are added, changed and destroyed.
+/// Shows how many objects are added, changed and destroyed.
 fn show_summary(text: &mut String, actions: &[Action]) -> Result<(), AllocError>
     ensures { OnOk result (string_bytes text.new ≡ string_bytes text.old
         ++ summary_line (count_of adds (map action_of actions.now)) (count_of changes (map action_of actions.now)) (count_of destroys (map action_of actions.now))) }
@@ -176,7 +177,7 @@ fn summarize(text: &mut String, add: usize, change: usize, destroy: usize) -> Re
     )
 }
 
-/// How many actions make an object, change one and destroy one.
+/// Counts the actions that create, update and destroy an object.
 fn counts(actions: &[Action]) -> (usize, usize, usize)
     ensures add { result.0 ≡ count_by (λ a. adds (step_of a.step)) actions.now }
     ensures change { result.1 ≡ count_by (λ a. changes (step_of a.step)) actions.now }
@@ -193,21 +194,21 @@ fn counts(actions: &[Action]) -> (usize, usize, usize)
     (add, change, destroy)
 }
 
-/// Whether an action makes an object.
+/// Checks whether the action creates an object.
 fn adds(action: &Action) -> bool
     ensures { result ≡ adds (step_of action.now.step) }
 {
     matches!(action.step, Step::Create(_) | Step::CreateReplacement(_, _))
 }
 
-/// Whether it changes one.
+/// Checks whether the action is an update.
 fn changes(action: &Action) -> bool
     ensures { result ≡ changes (step_of action.now.step) }
 {
     matches!(action.step, Step::Update(_, _, _))
 }
 
-/// Whether it destroys one.
+/// Checks whether the action destroys an object.
 fn destroys(action: &Action) -> bool
     ensures { result ≡ destroys (step_of action.now.step) }
 {

@@ -1,5 +1,5 @@
 -- What a journal holds, and which entries it may take.
-use Rattle.std.specs.Prelude.{◌≡◌, ℕ, ◌≤◌, ◌<◌, ◌^◌, Bool, true, false, ◌&&◌, nat_eq, List, map, length, Option, Some, None, if◌then◌else◌, not, count_by, slice_index_or}
+use Rattle.std.specs.Prelude.{◌≡◌, ℕ, ◌≤◌, ◌<◌, ◌^◌, Bool, true, false, ◌&&◌, nat_eq, Contains, List, [], ◌∷◌, map, take, length, Option, Some, None, if◌then◌else◌, not, count_by, slice_index, slice_index_or}
 use Rattle.std.specs.List.{list_all, list_any}
 use Rattle.tf_graph.specs.Digraph.{Digraph, predecessors_of}
 use Rattle.tf_graph.specs.Order.{IsInOrder}
@@ -28,17 +28,24 @@ actions_of entries = map (λ e. e.action) entries
 abbrev pub is_entered : List Entry → ℕ → Bool
 is_entered entries n = list_any (nat_eq n) (actions_of entries)
 
--- Why an action's call may not be recorded: first, that an action directly before it isn't recorded, then,
--- that it is recorded itself.
+-- Why an action's call may not be recorded: an action directly before it isn't recorded; otherwise, it is recorded itself.
 abbrev pub fault_of : Log → ℕ → Option RecordFault
 fault_of log n =
     if not (list_all (is_entered log.entries) (predecessors_of log.graph n)) then Some Early
     else (if is_entered log.entries n then Some Twice else None)
 
--- A journal is allowed where no action stands in it twice, and all actions directly before an entry's action
--- stand earlier.
+-- A journal is allowed if no action is in it twice, and all actions directly before an entry's action come earlier.
 abbrev pub IsAllowed : Log → Type 0
 IsAllowed log = IsInOrder (predecessors_of log.graph) (actions_of log.entries)
+
+-- the actions follow an edge: each time that its second end is among them, its first end comes earlier
+abbrev pub Follows : List ℕ → ℕ × ℕ → Type 0
+Follows actions edge = (i : ℕ) → i < length actions → slice_index actions i ≡ edge.1 → Contains (take i actions) edge.0
+
+-- the same as a test: the second end isn't met before the first
+abbrev pub follows : List ℕ → ℕ × ℕ → Bool
+follows [] edge = true
+follows (n ∷ actions) edge = if nat_eq n edge.1 then false else (if nat_eq n edge.0 then true else follows actions edge)
 
 abbrev pub same_op : Op → Op → Bool
 same_op Create Create = true
@@ -46,24 +53,24 @@ same_op Update Update = true
 same_op Destroy Destroy = true
 same_op _ _ = false
 
--- an entry says that this was done, and that it was good
+-- an entry says that this was done with a good verdict
 abbrev pub is_good : Op → Entry → Bool
 is_good op e = same_op e.op op && is_good_verdict e.verdict
 
--- how many entries say that this was done, and that it was good
+-- the number of entries that say that this was done with a good verdict
 abbrev pub good_count : Op → List Entry → ℕ
 good_count op entries = count_by (is_good op) entries
 
--- the mark of an action; one that isn't there has none
+-- the mark of an action; an action out of range has none
 abbrev pub is_marked : List Bool → ℕ → Bool
 is_marked marks n = slice_index_or marks n false
 
--- how many marks are set
+-- the number of marks that are set
 abbrev pub mark_count : List Bool → ℕ
 mark_count marks = count_by (λ mark. mark) marks
 
--- What a journal keeps: a mark for each action, set where it has an entry; as many entries as marks are set,
--- so that there is room for one more wherever a mark isn't; and the order of the entries.
+-- The invariant of a journal: each action has a mark, which is set if the action has an entry; there are as many entries as
+-- marks that are set, so that there is room for one more entry while a mark isn't set; and the entries are in order.
 pub record IsKept (graph : Digraph) (marks : List Bool) (entries : List Entry) (capacity : ℕ) : Type 0 where
   pub sized : length marks ≡ graph.nodes
   pub few : graph.nodes < 2 ^ 32

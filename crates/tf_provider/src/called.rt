@@ -1,4 +1,4 @@
-//! One call of a provider, and what is known of it.
+//! One call of a provider: the request, the reply and the verdict.
 
 ghost use Rattle.std.specs.Coded.{codes};
 ghost use Rattle.std.specs.Prelude.{◌≡◌, ℕ, false, true, IfSome, MatchResult};
@@ -12,7 +12,7 @@ use tf_claim::{Finished, Permit, waive};
 use tf_provider_protocol::{Op, Provider, Reply, Request, Verdict, judge};
 
 /// A call that was made: the action that it was made for, the request, the reply and the verdict on it. It
-/// can't be copied or let go: it has to be recorded. Contracts see a `Call`.
+/// can be neither copied nor dropped: a journal has to record it. Contracts see a `Call`.
 pub struct Called {
     finished: Finished,
     request: Request,
@@ -42,7 +42,8 @@ impl Model for Recorded {
 }
 
 /// Calls a provider once with a request, and judges its reply by the provider's schema of the request's
-/// type. The permit is spent.
+/// type. The call spends the permit. The provider has to have a schema of that type, and the object of a create or an update
+/// has exactly the schema's attributes.
 pub fn call(provider: &Box<dyn Provider + Sync>, permit: Permit, request: Request) -> Called
     requires served { IsServed (meaning provider.now) (asked request) }
     ensures action { result.action ≡ permit }
@@ -65,28 +66,28 @@ pub fn call(provider: &Box<dyn Provider + Sync>, permit: Permit, request: Reques
 }
 
 impl Called {
-    /// The action that the call was made for.
+    /// Returns the action that the call was made for.
     pub fn action(&self) -> usize
         ensures { result ≡ self.now.action }
     {
         self.finished.action()
     }
 
-    /// What the provider was asked to do.
+    /// Returns what the provider was asked to do.
     pub fn op(&self) -> Op
         ensures { result ≡ self.now.request.op }
     {
         self.request.op
     }
 
-    /// The verdict on the reply.
+    /// Returns the verdict on the reply.
     pub fn verdict(&self) -> Verdict
         ensures { result ≡ self.now.verdict }
     {
         self.verdict
     }
 
-    /// The same call, as recorded. A journal does this once it has the call's entry.
+    /// Returns this call as a recorded one. A journal does this once it has the call's entry.
     pub(crate) fn into_recorded(self) -> Recorded
         ensures { result ≡ self }
     {
@@ -95,8 +96,36 @@ impl Called {
 }
 
 impl Recorded {
-    /// The right to report the action as done, and the call; where the provider had no memory, the evidence of that in the
-    /// call's place.
+    /// Returns the action that was called.
+    pub fn action(&self) -> usize
+        ensures { result ≡ self.now.action }
+    {
+        self.call.finished.action()
+    }
+
+    /// Returns the request, also if the provider ran out of memory.
+    pub fn request(&self) -> &Request
+        ensures { result.now ≡ self.now.request }
+    {
+        &self.call.request
+    }
+
+    /// Returns the provider's reply.
+    pub fn reply(&self) -> &Reply
+        ensures { result.now ≡ self.now.reply }
+    {
+        &self.call.reply
+    }
+
+    /// Returns the verdict on the reply.
+    pub fn verdict(&self) -> Verdict
+        ensures { result ≡ self.now.verdict }
+    {
+        self.call.verdict
+    }
+
+    /// Splits the call into the right to report its action as done, and the call itself. If the provider ran out of memory,
+    /// the evidence of that takes the call's place.
     pub fn split(self) -> (Finished, Result<Judged, Unserved>)
         ensures finished { result.0 ≡ self.action }
         ensures judged { MatchResult result.1
@@ -124,7 +153,7 @@ impl Recorded {
     }
 }
 
-/// The evidence that the provider of an action was called and had no memory, so that nothing was done. Only the split of a
+/// The evidence that the provider of an action was called and ran out of memory, so that it did nothing. Only the split of a
 /// recorded call makes one. Contracts see the action's number.
 #[derive(Debug, Drop)]
 pub struct Unserved {
@@ -138,7 +167,7 @@ impl Model for Unserved {
 }
 
 impl Unserved {
-    /// The action whose provider had no memory.
+    /// Returns the action whose provider ran out of memory.
     pub fn action(&self) -> usize
         ensures { result ≡ self.now }
     {
@@ -146,8 +175,8 @@ impl Unserved {
     }
 }
 
-/// A recorded call whose provider had memory: the action, the request, the reply and the verdict on it. Only the split of a
-/// recorded call makes one, and it can't be copied or let go. Contracts see a `Call`.
+/// A recorded call whose provider didn't run out of memory: the action, the request, the reply and the verdict on it. Only the
+/// split of a recorded call makes one, and it can be neither copied nor dropped. Contracts see a `Call`.
 pub struct Judged {
     action: usize,
     request: Request,
@@ -164,35 +193,35 @@ impl Model for Judged {
 }
 
 impl Judged {
-    /// The action that was called.
+    /// Returns the action that was called.
     pub fn action(&self) -> usize
         ensures { result ≡ self.now.action }
     {
         self.action
     }
 
-    /// What was asked.
+    /// Returns the request.
     pub fn request(&self) -> &Request
         ensures { result.now ≡ self.now.request }
     {
         &self.request
     }
 
-    /// What the provider replied.
+    /// Returns the provider's reply.
     pub fn reply(&self) -> &Reply
         ensures { result.now ≡ self.now.reply }
     {
         &self.reply
     }
 
-    /// The verdict on the reply.
+    /// Returns the verdict on the reply.
     pub fn verdict(&self) -> Verdict
         ensures { result ≡ self.now.verdict }
     {
         self.verdict
     }
 
-    /// What was asked and what was replied, for a report: the call is at its end.
+    /// Takes the call apart into the request and the reply, for a report.
     pub fn into_report(self) -> (Request, Reply)
         ensures request { result.0 ≡ self.request }
         ensures reply { result.1 ≡ self.reply }

@@ -1,8 +1,10 @@
 //! A journal with room for one entry an action, so that recording takes no memory.
 
-ghost use Rattle.std.specs.Prelude.{◌≡◌, ◌<◌, ◌^◌, ◌∷◌, ◌++◌, [], false, length, replicate, All, MatchResult, IfOk, vec_capacity};
+ghost use Rattle.std.specs.Prelude.{◌≡◌, ◌<◌, ◌^◌, ◌∷◌, ◌++◌, [], false, IsTrue, length, replicate, All, MatchResult, IfOk, vec_capacity};
 ghost use Rattle.std.specs.List.{list_all};
-ghost use Rattle.tf_provider.specs.Entries.{IsAllowed, IsKept, Log, entry_of, fault_of, good_count, is_good, is_marked};
+ghost use Rattle.tf_graph.specs.Digraph.{predecessors_of};
+ghost use Rattle.tf_graph.specs.Order.{IsInOrder};
+ghost use Rattle.tf_provider.specs.Entries.{IsAllowed, IsKept, Log, actions_of, entry_of, fault_of, follows, good_count, is_good, is_marked};
 
 use crate::called::{Called, Recorded};
 use std::alloc::{AllocError, Global};
@@ -21,12 +23,12 @@ pub struct Entry {
     pub verdict: Verdict,
 }
 
-/// Why a call isn't recorded.
+/// Why a journal refuses to record a call.
 #[derive(Clone, Copy, Debug, PartialEq, Eq)]
 pub enum RecordFault {
     /// An action directly before this one isn't recorded.
     Early,
-    /// This action is recorded already.
+    /// This action is already recorded.
     Twice,
 }
 
@@ -48,8 +50,8 @@ impl Model for Journal {
 }
 
 impl Journal {
-    /// A journal without entries, with room for one entry an action of the graph. It keeps its own copy of
-    /// the graph.
+    /// Returns a journal without entries, with room for one entry for each action of the graph. It keeps a copy of the graph,
+    /// which shares the lists of edges. Fails only if memory runs out.
     pub fn with_room(alloc: Global, graph: &Graph) -> Result<Journal, AllocError>
         ensures graph { IfOk result (λ journal. journal.graph ≡ graph.now) }
         ensures empty { IfOk result (λ journal. journal.entries ≡ []) }
@@ -64,9 +66,13 @@ impl Journal {
         })
     }
 
-    /// Adds a call's entry at the end, and gives back the call as recorded. Takes no memory. A call is
-    /// refused, and then nothing changes and the call comes back, as `Early` where an action directly before
-    /// its own isn't recorded, and else as `Twice` where its own is.
+    /// Adds a call's entry at the end, and returns the call as a recorded one. It allocates nothing. The action has to be one of
+    /// the journal's graph.
+    ///
+    /// # Errors
+    ///
+    /// Returns the call and changes nothing: with `Early` if an action directly before its own isn't recorded, otherwise with
+    /// `Twice` if its own is recorded.
     pub fn record(&mut self, called: Called) -> Result<Recorded, (Called, RecordFault)>
         requires { called.action < self.old.graph.nodes }
         ensures recorded { MatchResult result
@@ -93,7 +99,7 @@ impl Journal {
         Ok(called.into_recorded())
     }
 
-    /// The entries in the order in which they were recorded.
+    /// Returns the entries in the order in which they were recorded.
     pub fn entries(&self) -> &[Entry]
         ensures entries { result.now ≡ self.now.entries }
         ensures allowed { IsAllowed self.now }
@@ -101,7 +107,20 @@ impl Journal {
         self.entries.as_slice()
     }
 
-    /// How many good creates, updates and destroys there are.
+    /// Returns whether the entries follow the order of a graph: each entry comes after entries of all actions directly before
+    /// its action. It allocates nothing. If the graph has the edges of the journal's own, the time is linear in the edges;
+    /// otherwise it is the edges times the entries.
+    pub fn follows(&self, graph: &Graph) -> bool
+        ensures follows { IsTrue result → IsInOrder (predecessors_of graph.now) (actions_of self.now.entries) }
+        ensures differs { result ≡ false → IsInOrder (predecessors_of graph.now) (actions_of self.now.entries) → ⊥ }
+    {
+        if self.graph.edges() == graph.edges() {
+            return true;
+        }
+        follow_all(self.entries.as_slice(), graph.edges())
+    }
+
+    /// Returns the numbers of good creates, good updates and good destroys.
     pub fn totals(&self) -> (u32, u32, u32)
         ensures creates { result.0 ≡ good_count Op.Create self.now.entries }
         ensures updates { result.1 ≡ good_count Op.Update self.now.entries }
@@ -115,7 +134,34 @@ impl Journal {
     }
 }
 
-/// How many entries have a good verdict on this.
+/// Returns whether the entries follow each of these edges.
+fn follow_all(entries: &[Entry], edges: &[(usize, usize)]) -> bool
+    ensures { result ≡ list_all (follows (actions_of entries.now)) edges.now }
+{
+    for (first, second) in edges {
+        if !follow(entries, *first, *second) {
+            return false;
+        }
+    }
+    true
+}
+
+/// Returns whether an entry of the second action, if there is one, comes after an entry of the first.
+fn follow(entries: &[Entry], first: usize, second: usize) -> bool
+    ensures { result ≡ follows (actions_of entries.now) (first, second) }
+{
+    for entry in entries {
+        if entry.action == second {
+            return false;
+        }
+        if entry.action == first {
+            return true;
+        }
+    }
+    true
+}
+
+/// Counts the entries that did `op` with a good verdict.
 fn good_count(entries: &[Entry], op: Op) -> u32
     requires { length entries.now < 2 ^ 32 }
     ensures { result ≡ good_count op entries.now }
@@ -123,21 +169,21 @@ fn good_count(entries: &[Entry], op: Op) -> u32
     entries.iter().filter(|entry| is_good(entry, op)).count() as u32
 }
 
-/// Whether an entry has a good verdict on this.
+/// Returns whether an entry did `op` with a good verdict.
 fn is_good(entry: &Entry, op: Op) -> bool
     ensures { result ≡ is_good op entry.now }
 {
     entry.op == op && entry.verdict == Verdict::Good
 }
 
-/// No mark on each of so many actions.
+/// Returns the marks of `count` actions, none of them set.
 fn no_marks(alloc: Global, count: usize) -> Result<Vec<bool>, AllocError>
     ensures { IfOk result (λ marks. marks.items ≡ replicate count false) }
 {
     vec![in alloc; false; count]
 }
 
-/// Whether each of some actions is marked.
+/// Returns whether all of these actions are marked.
 fn all_marked(marks: &[bool], actions: &[usize]) -> bool
     requires { All (λ n. n < length marks.now) actions.now }
     ensures { result ≡ list_all (is_marked marks.now) actions.now }

@@ -1,9 +1,9 @@
-//! Calls of providers, and the journal of an apply. A provider is called with a permit, which the call spends, so no action
-//! is called twice. What was replied stands in a value that can be neither copied nor let go, and that only a journal takes,
-//! which enters the call. So what ends an action tells by its type whether its provider was called: an action that wasn't is
-//! ended with `Waived`, one whose provider had no memory with `Unserved`, and any other with the `Judged` call itself.
+//! Calls of providers, and the journal of an apply. A call of a provider takes a permit and spends it, so no action is called
+//! twice. The reply is held in a value that can be neither copied nor dropped. Only a journal takes it, and enters the call. So
+//! the value that ends an action shows by its type whether the provider was called: `Waived` if it wasn't, `Unserved` if the
+//! provider ran out of memory, and otherwise the `Judged` call itself.
 //!
-//! At every moment no action stands in a journal twice, and all actions directly before an entry's action stand earlier.
+//! At every moment no action is in a journal twice, and all actions directly before an entry's action come earlier.
 #![tactic(auto)]
 
 pub mod called;

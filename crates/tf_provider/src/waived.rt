@@ -1,4 +1,4 @@
-//! What an action is ended with whose provider isn't called.
+//! The end of an action whose provider isn't called.
 
 ghost use Rattle.std.specs.Prelude.{◌≡◌, ℕ};
 
@@ -18,7 +18,7 @@ impl Model for Waived {
 }
 
 impl Waived {
-    /// The action that nobody called.
+    /// Returns the action whose provider wasn't called.
     pub fn action(&self) -> usize
         ensures { result ≡ self.now }
     {
@@ -26,7 +26,8 @@ impl Waived {
     }
 }
 
-/// Spends a permit without a call: the right to report its action as done, and the evidence that nobody called it.
+/// Spends a permit without a call. Returns the right to report the action as done, and the evidence that no provider was
+/// called.
 pub fn waive_for(permit: Permit) -> (Finished, Waived)
     ensures finished { result.0 ≡ permit }
     ensures waived { result.1 ≡ permit }

@@ -1,4 +1,4 @@
--- What the provider `local_file` answers.
+-- The answers of the provider `local_file`.
 use Rattle.std.specs.Prelude.{ℕ, List, Option, Some, None, Result, Ok, Err, if◌then◌else◌, codes}
 use Rattle.std.specs.Str.{bytes_eq}
 use Rattle.base64.specs.Engines.{standard}
@@ -20,7 +20,7 @@ abbrev pub with_text : List ℕ → List ℕ → Tree → Tree
 with_text key value (map es) = map (put key (text value) es)
 with_text key value t = t
 
--- An object tells the digests of its file's content; the id is its SHA-1.
+-- The object with the digests of its file's content. The id is its SHA-1.
 abbrev pub described : List ℕ → Tree → Tree
 described content t =
     with_text (codes "content_base64sha256") (encode_of standard (sha256 content))
@@ -35,17 +35,17 @@ message_of UnknownType = codes "unknown type"
 message_of Malformed = codes "malformed request"
 message_of BadPermission = codes "file_permission is not three octal digits"
 
--- A file that is wanted is answered by its object with what there is to say of its content, and no file by that it is gone.
+-- The answer for a wanted file is its object with the digests of its content; for no file it is `gone`.
 abbrev pub answer_to : WantedView → Answer
 answer_to (file f) = object (described f.content f.object)
 answer_to (no_file name) = gone
 
--- a request whose wish can't be fails, and leaves no object
+-- a request that can't be fulfilled fails, and leaves no object
 abbrev pub answer_or_fault : Result WantedView LocalFault → Answer
 answer_or_fault (Ok w) = answer_to w
 answer_or_fault (Err fault) = failed (message_of fault) None
 
--- what `local_file` answers to a request
+-- the answer of `local_file` to a request
 abbrev pub file_answer : Asked → Answer
 file_answer r = answer_or_fault (wanted r)
 
@@ -53,6 +53,6 @@ file_answer r = answer_or_fault (wanted r)
 abbrev pub schema_of : List ℕ → Option SchemaView
 schema_of name = if bytes_eq name (codes "local_file") then Some file_schema else None
 
--- what `local_file` means
+-- the meaning of `local_file`
 abbrev pub file_meaning : Meaning
 file_meaning = record { answer = file_answer; schema_of = schema_of }

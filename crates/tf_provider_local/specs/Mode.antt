@@ -1,4 +1,4 @@
--- Permissions, as a text names them.
+-- Permissions, named by a text.
 use Rattle.std.specs.Prelude.{ℕ, ◌+◌, ◌-◌, ◌*◌, Bool, ◌&&◌, nat_le, nat_eq, List, [], ◌∷◌, Option, Some, None, if◌then◌else◌}
 
 -- the digits 0 to 7

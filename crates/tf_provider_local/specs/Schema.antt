@@ -5,13 +5,13 @@ use Rattle.tf_provider_protocol.specs.declared.schema.Kind.TheVariants as kind
 use Rattle.tf_provider_protocol.specs.declared.schema.Mode.{Mode}
 use Rattle.tf_provider_protocol.specs.declared.schema.Mode.TheVariants.{Required, Optional, Computed}
 
--- what a configuration can set
+-- whether a configuration can set the attribute
 abbrev pub is_argument : Mode → Bool
 is_argument Computed = false
 is_argument Required = true
 is_argument Optional = true
 
--- An attribute holds a text. Where a configuration can set it, a change of it has the file replaced.
+-- An attribute holds a text. If a configuration can set it, its change replaces the file.
 abbrev pub attribute : List ℕ → Mode → AttributeView
 attribute name mode = record { name = name; kind = kind.String; mode = mode; force_new = is_argument mode }
 

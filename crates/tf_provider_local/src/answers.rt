@@ -1,4 +1,4 @@
-//! What is answered to a request.
+//! The answers to requests.
 
 ghost use Rattle.std.specs.Prelude.{◌≡◌, IfOk, string_bytes};
 ghost use Rattle.base64.specs.Engines.{standard};
@@ -21,7 +21,7 @@ use std::alloc::{AllocError, Global};
 use tf_provider_protocol::Reply;
 use tf_value_data::{Value, copy};
 
-/// The answer where what is wanted is so.
+/// Returns the answer after the wanted file is written or removed.
 pub fn answer(alloc: Global, wanted: &Wanted<'_>) -> Result<Reply, AllocError>
     ensures { IfOk result (λ reply. answered reply ≡ Some (answer_to (wanted_view wanted.now))) }
 {
@@ -31,7 +31,7 @@ pub fn answer(alloc: Global, wanted: &Wanted<'_>) -> Result<Reply, AllocError>
     }
 }
 
-/// The answer where nothing can be done: a failure that leaves no object.
+/// Returns the answer to a request that can't be fulfilled: a failure without an object.
 pub fn refusal(alloc: Global, fault: LocalFault) -> Result<Reply, AllocError>
     ensures { IfOk result (λ reply. answered reply ≡ Some (failed (message_of fault) None)) }
 {
@@ -46,7 +46,7 @@ pub fn refusal(alloc: Global, fault: LocalFault) -> Result<Reply, AllocError>
     })
 }
 
-/// An object with what there is to say of its file's content.
+/// Returns an object with the digests of its file's content.
 fn described(alloc: Global, content: &str, object: &Value) -> Result<Value, AllocError>
     ensures { IfOk result (λ v. tree_of v ≡ described content.now (tree_of object.now)) }
 {
@@ -59,28 +59,28 @@ fn described(alloc: Global, content: &str, object: &Value) -> Result<Value, Allo
     with_text(alloc, value, "content_base64sha256", base64)
 }
 
-/// The SHA-1 of a text, in hexadecimal.
+/// Returns the SHA-1 of a text, in hexadecimal.
 pub fn sha1_of(alloc: Global, text: &str) -> Result<String, AllocError>
     ensures { IfOk result (λ t. string_bytes t ≡ encode_lower (sha1 text.now)) }
 {
     hex::encode(alloc, Sha1::digest(text.as_bytes()))
 }
 
-/// The MD5 of a text, in hexadecimal.
+/// Returns the MD5 of a text, in hexadecimal.
 fn md5_of(alloc: Global, text: &str) -> Result<String, AllocError>
     ensures { IfOk result (λ t. string_bytes t ≡ encode_lower (md5 text.now)) }
 {
     hex::encode(alloc, Md5::digest(text))
 }
 
-/// The SHA-256 of a text, in hexadecimal.
+/// Returns the SHA-256 of a text, in hexadecimal.
 fn sha256_of(alloc: Global, text: &str) -> Result<String, AllocError>
     ensures { IfOk result (λ t. string_bytes t ≡ encode_lower (sha256 text.now)) }
 {
     hex::encode(alloc, Sha256::digest(text))
 }
 
-/// A map with a text at a key; any other value stays.
+/// Puts a text at a key of a map. Returns any other value unchanged.
 fn with_text(alloc: Global, value: Value, key: &str, text: String) -> Result<Value, AllocError>
     ensures { IfOk result (λ v. tree_of v ≡ with_text key.now (string_bytes text) (tree_of value)) }
 {

@@ -7,7 +7,7 @@ ghost use Rattle.tf_provider_protocol.specs.Schema.{attribute_of, fault_of, in_o
 use std::alloc::{AllocError, Global};
 use tf_provider_protocol::{Attribute, Kind, Mode, Schema, SchemaFault};
 
-/// The schema of `local_file`.
+/// Returns the schema of `local_file`.
 pub fn file_schema(alloc: Global) -> Result<Schema, AllocError>
     ensures { IfOk result (λ schema. schema ≡ file_schema) }
 {
@@ -23,7 +23,7 @@ pub fn file_schema(alloc: Global) -> Result<Schema, AllocError>
     first_version(alloc, attributes)
 }
 
-/// An attribute that holds a text. Where the configuration may set it, a change of it has the file replaced.
+/// Returns an attribute that holds a text. If the configuration may set it, its change replaces the file.
 fn attribute(alloc: Global, name: &str, mode: Mode) -> Result<Attribute, AllocError>
     ensures { IfOk result (λ a. attribute_of a ≡ attribute name.now mode) }
 {
@@ -35,7 +35,7 @@ fn attribute(alloc: Global, name: &str, mode: Mode) -> Result<Attribute, AllocEr
     })
 }
 
-/// The schema of version 0 with these attributes, which have no fault.
+/// Returns the schema of version 0 with the given attributes, which have no fault.
 fn first_version(alloc: Global, attributes: Vec<Attribute>) -> Result<Schema, AllocError>
     requires { fault_of (map attribute_of attributes.items) ≡ None }
     ensures { IfOk result (λ schema. schema ≡ record { version = 0; attributes = in_order (map attribute_of attributes.items) }) }

@@ -1,4 +1,4 @@
-//! Files as they are wanted.
+//! Writing and removing files.
 
 ghost use Rattle.std.specs.Io.KnownBytes.{Appends};
 ghost use Rattle.std.specs.Prelude.{OnOk};
@@ -13,7 +13,7 @@ use std::os::unix::fs::OpenOptionsExt;
 use std::rt::Files;
 use std::{fs, io};
 
-/// Has what is wanted be so, for the object at an address. Where that fails, all is as it was.
+/// Writes or removes the wanted file, for the object at an address. If this fails, everything is as it was before.
 pub fn fulfil<R: Files>(
     alloc: Global,
     rt: &R,
@@ -26,8 +26,8 @@ pub fn fulfil<R: Files>(
     }
 }
 
-/// Puts a file in its place, by a new one beside it that is renamed once all of it is on the disk. What stands at the new one's name
-/// was left by a program that was killed.
+/// Writes a new file in the same folder, and renames it to the wanted name when all of it is on the disk. Removes an
+/// earlier file at the new one's name, which a killed program left.
 fn put<R: Files>(alloc: Global, rt: &R, address: &str, file: &WantedFile<'_>) -> io::Result<()> {
     let name = new_name(alloc, address, file.name)?;
     let new = name.as_str();
@@ -47,7 +47,7 @@ fn put<R: Files>(alloc: Global, rt: &R, address: &str, file: &WantedFile<'_>) ->
     }
 }
 
-/// Writes a file at a new name, in folders that are made as needed, has it on the disk, and gives it its own name.
+/// Writes a file at a new name, creates folders as needed, syncs the file to the disk, and renames it.
 fn write_new<R: Files>(
     rt: &R,
     new: &str,
@@ -65,14 +65,14 @@ fn write_new<R: Files>(
     fs::rename(rt, new, file.name)
 }
 
-/// Makes an empty file.
+/// Creates an empty file.
 fn create<R: Files>(rt: &R, new: &str, mode: u32) -> io::Result<R::File> {
     let mut options = OpenOptions::new();
     options.write(true).create_new(true).mode(mode);
     options.open(rt, new)
 }
 
-/// Writes what a file is to hold, and has it on the disk.
+/// Writes the content of a file, and syncs it to the disk.
 fn fill<F: Write + OpenFile>(written: &mut F, file: &WantedFile<'_>) -> io::Result<()>
     ensures { OnOk result (Appends (F.contents written.old) (F.contents written.new) file.now.content.now) }
 {
@@ -80,7 +80,7 @@ fn fill<F: Write + OpenFile>(written: &mut F, file: &WantedFile<'_>) -> io::Resu
     written.sync_all()
 }
 
-/// Removes a file. One that isn't there is gone already.
+/// Removes a file. Succeeds if there is no such file.
 fn remove<R: Files>(rt: &R, name: &str) -> io::Result<()> {
     match fs::remove_file(rt, name) {
         Ok(()) => {
@@ -92,12 +92,13 @@ fn remove<R: Files>(rt: &R, name: &str) -> io::Result<()> {
     }
 }
 
-/// Whether there is no file, or no folder that it could stand in.
+/// Returns whether the file or its folder doesn't exist.
 fn is_missing(kind: ErrorKind) -> bool {
     kind == ErrorKind::NotFound || kind == ErrorKind::NotADirectory
 }
 
-/// The name at which a file is written that is to stand at a name: in the same folder, and no other object's.
+/// Returns the name at which a file is written before it is renamed: in the same folder, and unique to the object's
+/// address.
 fn new_name(alloc: Global, address: &str, name: &str) -> Result<String, AllocError> {
     let own = sha1_of(alloc, address)?;
     format!(in alloc; "{}/.{own}.new", folder_of(name))

@@ -4,17 +4,17 @@ use std::fs::OpenFile;
 use std::rt::Files;
 use std::{fs, io};
 
-/// Those folders that were made for a file; none so far where `from` is `None`.
+/// The folders that were created for a file. If `from` is `None`, no folder was created so far.
 #[derive(Drop)]
 pub struct Made<'a> {
-    /// The folder that the file stands in.
+    /// The folder of the file.
     folder: &'a str,
-    /// How much of that name the outermost folder has that was made.
+    /// The length of the part of `folder` that names the outermost folder that was created.
     from: Option<usize>,
 }
 
 impl<'a> Made<'a> {
-    /// No folder yet, for a file of this name.
+    /// Returns a value without created folders, for a file of this name.
     pub fn none(name: &'a str) -> Made<'a> {
         Made {
             folder: folder_of(name),
@@ -22,7 +22,7 @@ impl<'a> Made<'a> {
         }
     }
 
-    /// Makes those folders that aren't there.
+    /// Creates the folders that don't exist.
     pub fn make<R: Files>(&mut self, rt: &R) -> io::Result<()> {
         for end in 1..=self.folder.len() {
             if let Some(folder) = outer_at(self.folder, end)
@@ -35,7 +35,7 @@ impl<'a> Made<'a> {
         Ok(())
     }
 
-    /// Removes those that were made, where nothing else stands in them.
+    /// Removes the created folders that are empty.
     pub fn remove<R: Files>(&self, rt: &R) {
         let Some(from) = self.from else {
             return;
@@ -47,7 +47,7 @@ impl<'a> Made<'a> {
         }
     }
 
-    /// Has the names of those that were made on the disk.
+    /// Syncs the names of the created folders to the disk.
     pub fn sync<R: Files>(&self, rt: &R) {
         let Some(from) = self.from else {
             return;
@@ -60,7 +60,7 @@ impl<'a> Made<'a> {
     }
 }
 
-/// The folder that so much of a name is, where a name of a folder ends there.
+/// Returns the first `end` bytes of a name, if a folder's name ends there.
 fn outer_at(name: &str, end: usize) -> Option<&str> {
     match name.split_at_checked(end) {
         Some((folder, rest)) if rest.is_empty() || rest.starts_with('/') => Some(folder),
@@ -68,7 +68,7 @@ fn outer_at(name: &str, end: usize) -> Option<&str> {
     }
 }
 
-/// Makes a folder, and says whether it wasn't there.
+/// Creates a folder, and returns whether it didn't exist before.
 fn is_made<R: Files>(rt: &R, folder: &str) -> io::Result<bool> {
     match fs::create_dir(rt, folder) {
         Ok(()) => Ok(true),
@@ -84,14 +84,14 @@ fn is_folder<R: Files>(rt: &R, name: &str) -> bool {
     }
 }
 
-/// Has the names of the folder that a file or a folder stands in on the disk, where it can be opened.
+/// Syncs the folder of a file or a folder to the disk, if it can be opened.
 pub fn sync_folder<R: Files>(rt: &R, name: &str) {
     if let Ok(folder) = fs::open(rt, folder_of(name)) {
         let _ = folder.sync_all();
     }
 }
 
-/// The folder that a file or a folder stands in.
+/// Returns the folder of a file or a folder.
 pub fn folder_of(name: &str) -> &str {
     match name.rsplit_once('/') {
         Some(("", _)) => "/",

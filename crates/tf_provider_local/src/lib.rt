@@ -1,19 +1,19 @@
-//! The provider `local_file`, whose objects are files: after HashiCorp's provider `local`.
+//! The provider `local_file`, whose objects are files, modelled on HashiCorp's provider `local`.
 //!
 //! It has one type, of schema version 0.
 //!
 //! | Attribute | Kind | What it is |
 //! |---|---|---|
-//! | `filename` | String, required, force-new | The file's name, from where the program runs. |
-//! | `content` | String, optional, force-new | What the file holds; null is nothing. |
+//! | `filename` | String, required, force-new | The file's name, relative to the current directory. |
+//! | `content` | String, optional, force-new | The file's content; null is an empty file. |
 //! | `file_permission` | String, optional, force-new | Three octal digits, with or without a 0 before them: who may do what with the file, less what the process takes away (umask). Null is `0777`. |
 //! | `id`, `content_sha1` | String, computed | The SHA-1 of the content, in hexadecimal. |
 //! | `content_md5`, `content_sha256` | String, computed | Its MD5 and its SHA-256, in hexadecimal. |
 //! | `content_base64sha256` | String, computed | Its SHA-256, in Base64. |
 //!
-//! A create makes the file, with the folders that it needs, or puts it in the place of the one that is there. A destroy removes it;
-//! one that isn't there is gone already. What the disk refuses is answered as want of memory, and standard error is told which file
-//! it was and why: so an answer depends on the request alone.
+//! A create writes the file, with the folders that it needs, or replaces an existing file. A destroy removes it, and
+//! succeeds if it doesn't exist. If the disk refuses, the answer is `NoMemory`, and standard error reports which file
+//! it was and why. So an answer depends only on the request, apart from `NoMemory`.
 #![tactic(auto)]
 
 mod answers;

@@ -13,7 +13,7 @@ use std::io;
 use std::rt::Files;
 use tf_provider_protocol::{Provider, Reply, Request, Schema};
 
-/// The provider `local_file`, of the files that a runtime has.
+/// The provider `local_file`, for the files of a runtime.
 #[derive(Drop)]
 pub struct LocalFile<R: Files + Eprint + Drop> {
     alloc: Global,
@@ -23,7 +23,7 @@ pub struct LocalFile<R: Files + Eprint + Drop> {
 }
 
 impl<R: Files + Eprint + Drop> LocalFile<R> {
-    /// The provider with its schema. Refused only where there is no memory.
+    /// Returns the provider with its schema. Fails only if memory runs out.
     pub fn new(alloc: Global, rt: R) -> Result<LocalFile<R>, AllocError>
         ensures { IfOk result (λ provider. ⟦<LocalFile<R> as Provider>⟧.meaning provider ≡ file_meaning) }
     {
@@ -31,7 +31,8 @@ impl<R: Files + Eprint + Drop> LocalFile<R> {
         Ok(LocalFile { alloc, rt, schema })
     }
 
-    /// Has what is wanted be so. Where the disk refuses that, standard error is told which file it was and why.
+    /// Writes or removes the wanted file, and returns whether that succeeded. If the disk refuses, reports on
+    /// standard error which file it was and why.
     fn is_fulfilled(&self, request: &Request, wanted: &Wanted<'_>) -> bool {
         match fulfil(self.alloc, &self.rt, request.address.as_str(), wanted) {
             Ok(()) => true,
@@ -71,7 +72,7 @@ impl<R: Files + Eprint + Drop> Provider for LocalFile<R> {
     }
 }
 
-/// Tells standard error which file couldn't be as it is wanted, and why.
+/// Reports on standard error which file could not be written or removed, and why.
 fn tell<R: Eprint>(rt: &R, wanted: &Wanted<'_>, error: &io::Error) -> io::Result<()> {
     match wanted {
         Wanted::File(file) => eprintln!(rt; "error: cannot write {:?}: {error}", file.name),

@@ -1,9 +1,9 @@
-//! Permissions, as a text names them.
+//! Permissions, named by a text.
 
 ghost use Rattle.std.specs.Prelude.{◌≡◌};
 ghost use Rattle.tf_provider_local.specs.Mode.{is_octal, mode_by, mode_of};
 
-/// The bits of the permissions that a text names: three octal digits, with or without a 0 before them.
+/// Returns the bits of the permissions that a text names: three octal digits, with or without a 0 before them.
 pub fn mode_of(text: &str) -> Option<u32>
     ensures { result ≡ mode_of text.now }
 {
@@ -14,7 +14,7 @@ pub fn mode_of(text: &str) -> Option<u32>
     }
 }
 
-/// The bits of the permissions that three digits name: the owner's, the group's and the others'.
+/// Returns the bits of the permissions that three digits name: the owner's, the group's and the others'.
 fn mode_by(owner: u8, group: u8, others: u8) -> Option<u32>
     ensures { result ≡ mode_by owner group others }
 {
@@ -25,7 +25,7 @@ fn mode_by(owner: u8, group: u8, others: u8) -> Option<u32>
     }
 }
 
-/// Whether a byte is an octal digit.
+/// Returns whether a byte is an octal digit.
 fn is_octal(byte: u8) -> bool
     ensures { result ≡ is_octal byte }
 {

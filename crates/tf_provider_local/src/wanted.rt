@@ -1,4 +1,4 @@
-//! What a request wants to stand at a name.
+//! What a request wants at a name: a file, or no file.
 
 ghost use Rattle.std.specs.Prelude.{◌≡◌, option_map, MatchResult};
 ghost use Rattle.tf_provider_local.specs.Wanted.{content_in, file_in, gone_in, mode_in, text_in, wanted, wanted_view};
@@ -9,10 +9,10 @@ use crate::mode::mode_of;
 use tf_provider_protocol::{Op, Request};
 use tf_value_data::Value;
 
-/// The permissions where none are named: everyone may do everything, less what the process takes away.
+/// The default permissions: everyone may do everything, less what the process takes away (umask).
 const ALL: u32 = 0o777;
 
-/// What is to stand at a name.
+/// What a request wants at a name.
 #[derive(Drop)]
 pub enum Wanted<'a> {
     /// A file.
@@ -21,31 +21,31 @@ pub enum Wanted<'a> {
     NoFile(&'a str),
 }
 
-/// A file that is wanted.
+/// A wanted file.
 #[derive(Drop)]
 pub struct WantedFile<'a> {
     /// Its name.
     pub name: &'a str,
-    /// What it is to hold.
+    /// Its content.
     pub content: &'a str,
-    /// Who may do what with it, as the bits of a file's mode.
+    /// Its permissions, as the bits of a file's mode.
     pub mode: u32,
-    /// The object that was asked for.
+    /// The requested object.
     pub object: &'a Value,
 }
 
-/// Why a request wants nothing that can be.
+/// Why a request can't be fulfilled.
 #[derive(Clone, Copy, Debug, PartialEq, Eq)]
 pub enum LocalFault {
-    /// Its type is another one.
+    /// The type is not `local_file`.
     UnknownType,
-    /// It has no object, or one without a name or with a content that is no text.
+    /// There is no object, or it has no name or a content that is no text.
     Malformed,
     /// The permissions aren't three octal digits.
     BadPermission,
 }
 
-/// What a request wants: of a destroy that no file stands at the name of the prior object, else a file.
+/// Returns what a request wants. A destroy wants no file at the name of the prior object, any other request a file.
 pub fn wants(request: &Request) -> Result<Wanted<'_>, LocalFault>
     ensures { MatchResult result
         (λ found. wanted (asked request.now) ≡ Ok (wanted_view found))
@@ -67,7 +67,7 @@ pub fn wants(request: &Request) -> Result<Wanted<'_>, LocalFault>
     }
 }
 
-/// That no file stands at the name that an object has.
+/// Returns that no file is wanted at an object's name.
 fn gone_in(prior: &Value) -> Result<Wanted<'_>, LocalFault>
     ensures { MatchResult result
         (λ found. gone_in (tree_of prior.now) ≡ Ok (wanted_view found))
@@ -79,7 +79,7 @@ fn gone_in(prior: &Value) -> Result<Wanted<'_>, LocalFault>
     }
 }
 
-/// The file that an object tells of.
+/// Returns the file that an object describes.
 fn file_in(object: &Value) -> Result<Wanted<'_>, LocalFault>
     ensures { MatchResult result
         (λ found. file_in (tree_of object.now) ≡ Ok (wanted_view found))
@@ -102,7 +102,7 @@ fn file_in(object: &Value) -> Result<Wanted<'_>, LocalFault>
     }))
 }
 
-/// The text at a key, if a text stands there.
+/// Returns the text at a key, if there is one.
 fn text_at<'a>(value: &'a Value, key: &str) -> Option<&'a str>
     ensures { option_map (λ t. t.now) result ≡ text_in (part_at key.now (tree_of value.now)) }
 {
@@ -112,7 +112,7 @@ fn text_at<'a>(value: &'a Value, key: &str) -> Option<&'a str>
     }
 }
 
-/// The content that a value stands for: a text for itself, and null for nothing.
+/// Returns the content that a value gives: a text itself, and for null the empty text.
 fn content_in(value: Option<&Value>) -> Option<&str>
     ensures { option_map (λ t. t.now) result ≡ content_in (option_map (λ v. tree_of v.now) value.entry) }
 {
@@ -123,7 +123,7 @@ fn content_in(value: Option<&Value>) -> Option<&str>
     }
 }
 
-/// The permissions that a value stands for: a text for those that it names, and null for all.
+/// Returns the permissions that a value gives: those that a text names, and for null all.
 fn mode_in(value: Option<&Value>) -> Option<u32>
     ensures { result ≡ mode_in (option_map (λ v. tree_of v.now) value.entry) }
 {

@@ -1,10 +1,10 @@
--- What is read of a log that was cut.
+-- What is read from a log that was cut.
 use Rattle.std.specs.Prelude.{◌≡◌, ◌<◌, ◌≤◌, ◌++◌, ◌⊎◌, ℕ, List, ◌∷◌, [], length, take, drop, Ok, Some, ⊤}
 use Rattle.tf_provider_log.specs.LogEntry.{LogEntryView, HeaderView}
 use Rattle.tf_provider_log.specs.Line.{IsEntryLine, IsHeaderLine, lines_of}
 use Rattle.tf_provider_log.specs.Log.{log_in}
 
--- texts, one behind another
+-- texts, one after another
 abbrev pub joined : List (List ℕ) → List ℕ
 joined [] = []
 joined (text ∷ texts) = text ++ joined texts
@@ -15,19 +15,20 @@ AreLines [] [] = ⊤
 AreLines (entry ∷ entries) (text ∷ texts) = IsEntryLine entry text × AreLines entries texts
 AreLines _ _ = ⊥
 
--- bytes are less than the first of these texts, or nothing where there is none
+-- bytes are less than the first of these texts, or empty if there are no texts
 abbrev pub IsTorn : List ℕ → List (List ℕ) → Type 0
 IsTorn bytes [] = bytes ≡ []
 IsTorn bytes (text ∷ texts) = length bytes < length text
 
--- Bytes hold exactly the first n of the texts whole: these, one behind another, and then less than the next one.
+-- Bytes hold exactly the first n of the texts whole: these, one after another, and then less than the next one.
 pub record HoldsWhole (texts : List (List ℕ)) (n : ℕ) (bytes : List ℕ) : Type 0 where
   pub within : n ≤ length texts
   pub torn : List ℕ
   pub is_bytes : bytes ≡ joined (take n texts) ++ torn
   pub is_torn : IsTorn torn (drop n texts)
 
--- Bytes behind a first line hold exactly the first n of the texts whole, and with that line they read as what was given and the first n entries.
+-- Bytes are the first line and exactly the first n of the texts whole, and read as the header and the first n
+-- entries.
 pub record ReadsAsFar (header : HeaderView) (written : List ℕ) (entries : List LogEntryView) (texts : List (List ℕ)) (bytes : List ℕ) : Type 0 where
   pub n : ℕ
   pub behind : List ℕ
@@ -35,8 +36,8 @@ pub record ReadsAsFar (header : HeaderView) (written : List ℕ) (entries : List
   pub whole : HoldsWhole texts n behind
   pub reads : log_in (lines_of bytes) ≡ Ok (Some record { header = header; entries = take n entries })
 
--- Of a log that was written line by line, each beginning, cut at any byte, either is less than the first line, and has no whole line; or
--- it reads as what was given and as many entries as stand whole in it.
+-- If a log was written line by line, each of its beginnings, cut at any byte, either is less than the first line and
+-- has no whole line, or reads as the header and the entries that are whole in it.
 abbrev pub BeginningsAreRead : Type 0
 BeginningsAreRead =
     (header : HeaderView) (written : List ℕ) (entries : List LogEntryView) (texts : List (List ℕ)) (bytes rest : List ℕ) → IsHeaderLine header written → AreLines entries texts → bytes ++ rest ≡ written ++ joined texts

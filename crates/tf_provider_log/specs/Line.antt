@@ -14,24 +14,24 @@ use Rattle.tf_provider_log.specs.declared.fault.LineFault.TheVariants.{NotAHeade
 abbrev pub IsInLine : ℕ → Type 0
 IsInLine byte = byte ≡ 10 → ⊥
 
--- the lines of a text that goes on with these bytes behind the beginning of a line: what stands before each newline
+-- the lines of some bytes that continue a line that has begun: what is before each newline
 abbrev pub lines_from : List ℕ → List ℕ → List (List ℕ)
 lines_from line [] = []
 lines_from line (byte ∷ bytes) = if byte == 10 then line ∷ lines_from [] bytes else lines_from (line ++ byte ∷ []) bytes
 
--- the whole lines of a text, and nothing of what follows the last newline
+-- the whole lines of a text, without what follows the last newline
 abbrev pub lines_of : List ℕ → List (List ℕ)
 lines_of bytes = lines_from [] bytes
 
--- the JSON tree of a line, where it is UTF-8 and has one
+-- the JSON tree of a line, if it is UTF-8 and has one
 abbrev pub tree_in : List ℕ → Option Data
 tree_in line = if is_utf8 line then read line else None
 
--- what a line tells, where it is the line of an entry
+-- the entry that a line says, if it is the line of one
 abbrev pub entry_in : List ℕ → Option LogEntryView
 entry_in line = option_and_then entry_from (tree_in line)
 
--- what a log's first line tells, where it is such a line
+-- the header that a log's first line says, if it is the line of one
 abbrev pub header_in : List ℕ → Option HeaderView
 header_in line = option_and_then header_from (tree_in line)
 
@@ -40,29 +40,32 @@ abbrev pub fault_of_version : Option ℤ → LineFault
 fault_of_version (Some z) = if int_eq z (pos 1) then NotAHeader else UnknownVersion
 fault_of_version None = NotAHeader
 
--- what is wrong with a first line that tells nothing
+-- the fault of a first line that says no header
 abbrev pub header_fault : List ℕ → LineFault
 header_fault line = fault_of_version (option_and_then version_of (tree_in line))
 
--- A text is the line of an entry: it ends with the only newline in it, and what stands before it tells just the entry.
+-- A text is the line of an entry: it ends with the only newline in it, and what is before that says exactly the
+-- entry.
 pub record IsEntryLine (entry : LogEntryView) (text : List ℕ) : Type 0 where
   pub line : List ℕ
   pub in_line : All IsInLine line
   pub tells : entry_in line ≡ Some entry
   pub is_text : text ≡ line ++ 10 ∷ []
 
--- The same of a log's first line.
+-- A text is the line of a header: it ends with the only newline in it, and what is before that says exactly the
+-- header.
 pub record IsHeaderLine (header : HeaderView) (text : List ℕ) : Type 0 where
   pub line : List ℕ
   pub in_line : All IsInLine line
   pub tells : header_in line ≡ Some header
   pub is_text : text ≡ line ++ 10 ∷ []
 
--- the request that a line is as JSON
+-- the request that a line says as JSON
 abbrev pub request_in : List ℕ → Option Asked
 request_in line = option_and_then request_from (tree_in line)
 
--- The same of a request by itself.
+-- A text is the line of a request: it ends with the only newline in it, and what is before that says exactly the
+-- request.
 pub record IsRequestLine (request : Asked) (text : List ℕ) : Type 0 where
   pub line : List ℕ
   pub in_line : All IsInLine line

@@ -1,4 +1,4 @@
--- When two requests are the same.
+-- When two requests are equal.
 use Rattle.std.specs.Prelude.{Bool, true, false, ◌&&◌, Option, Some, None}
 use Rattle.std.specs.Str.{bytes_eq}
 use Rattle.tf_provider_protocol.specs.Meaning.{Asked}
@@ -12,13 +12,13 @@ is_same_op Update Update = true
 is_same_op Destroy Destroy = true
 is_same_op _ _ = false
 
--- both are there and the same, or neither is there
+-- both are present and equal, or both are absent
 abbrev pub is_same_option : {A : Type 0} → (A → A → Bool) → Option A → Option A → Bool
 is_same_option test (Some a) (Some b) = test a b
 is_same_option test None None = true
 is_same_option test _ _ = false
 
--- two requests are to do the same, to the same object, with the same prior and wanted object
+-- two requests have the same operation on the same object, with the same prior and requested object
 abbrev pub is_same : Asked → Asked → Bool
 is_same q r =
     is_same_op q.op r.op

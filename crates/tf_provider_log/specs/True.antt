@@ -1,15 +1,15 @@
--- When what a log tells is true.
+-- When a log's entries are true.
 use Rattle.std.specs.Prelude.{◌≡◌, ℕ, List, All, Some, IfSome, ⊤}
 use Rattle.tf_provider_log.specs.LogEntry.{LogEntryView, replied}
 use Rattle.tf_provider_log.specs.Line.{IsEntryLine}
 use Rattle.tf_provider_protocol.specs.Meaning.{Meaning, first_with}
 
--- An entry is true of a provider where what it tells to be answered is what the provider answers.
+-- An entry is true of a provider if its answer is the provider's answer to the request.
 abbrev pub IsTrueOf : Meaning → LogEntryView → Type 0
 IsTrueOf m (replied r (Some a)) = a ≡ m.answer r
 IsTrueOf m _ = ⊤
 
--- An entry is true of some providers where it is true of the first one that has its type, if one has.
+-- An entry is true of some providers if it is true of the first one that has its type, or if no provider has it.
 abbrev pub IsTrueAmong : List Meaning → LogEntryView → Type 0
 IsTrueAmong ms (replied r (Some a)) = IfSome (first_with r.type_name ms) (λ m. a ≡ m.answer r)
 IsTrueAmong ms _ = ⊤

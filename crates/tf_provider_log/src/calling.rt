@@ -1,4 +1,4 @@
-//! Calls of a provider by right of a line in the log.
+//! Calls of a provider, which require the request's line in the log.
 
 ghost use Rattle.std.specs.Prelude.{◌≡◌, IfOk, MatchOption, None, Some};
 ghost use Rattle.tf_provider_log.specs.LogEntry.{begun, replied};
@@ -10,13 +10,13 @@ use crate::lines::{Added, Lost, Telling};
 use std::marker::Model;
 use tf_provider_protocol::{Provider, Reply, Request, Schema};
 
-/// A request that the log tells to be begun: the right to ask a provider it, once. It can be neither copied nor let go, only its
-/// line gives one, and it is spent by the call.
+/// A request that the log says is begun: the right to call a provider with it, once. It can be neither copied nor
+/// dropped. Only the request's line gives one, and the call spends it.
 pub(crate) struct Begun<'a> {
     request: &'a Request,
 }
 
-/// A provider that can be asked only what the log tells to be begun. Contracts see the provider.
+/// A provider that is called only with requests that the log says are begun. Contracts see the provider.
 #[derive(Drop)]
 pub(crate) struct Guarded<P: Provider> {
     provider: P,
@@ -28,15 +28,15 @@ impl<P: Provider> Model for Guarded<P> {
     ghost view = { λ guarded. guarded.provider };
 }
 
-/// A call that was made: of which provider, what was asked, and what was replied. It can be neither copied nor let go, only a
-/// call makes one, and its reply is had by its line, or where the log is lost.
+/// A call that was made: the provider, the request and the reply. It can be neither copied nor dropped, and only a
+/// call creates one. The reply can be taken only with the line that logs it, or with proof that the log is lost.
 pub(crate) struct LoggedCall<'a, P: Provider> {
     provider: &'a Guarded<P>,
     request: &'a Request,
     reply: Reply,
 }
 
-/// It may be told that a request is begun.
+/// A request may write that it is begun.
 impl Telling for Request {
     ghost use Rattle.tf_provider_log.specs.LogEntry.{begun};
     ghost use Rattle.tf_provider_log.specs.Line.{IsEntryLine};
@@ -45,7 +45,7 @@ impl Telling for Request {
     ghost may_tell = { λ request text. IsEntryLine (begun (asked request)) text };
 }
 
-/// It may be told what was replied, where that is true of the provider that was called.
+/// A call may write its reply, which is true of the provider that was called.
 impl<'a, P: Provider> Telling for LoggedCall<'a, P> {
     ghost use Rattle.tf_provider_log.specs.LogEntry.{replied};
     ghost use Rattle.tf_provider_log.specs.True.{IsTrueLine};
@@ -55,7 +55,7 @@ impl<'a, P: Provider> Telling for LoggedCall<'a, P> {
 }
 
 impl<'a> Begun<'a> {
-    /// The right that the line gives which tells that the request is begun.
+    /// Returns the right to call a provider, given the line that says that the request is begun.
     pub(crate) fn by(request: &'a Request, _added: Added<'_>) -> Begun<'a>
         requires { IsEntryLine (begun (asked request.now)) _added.text.now }
         ensures { result.request.now ≡ request.now }
@@ -65,14 +65,14 @@ impl<'a> Begun<'a> {
 }
 
 impl<P: Provider> Guarded<P> {
-    /// A provider, guarded from here on.
+    /// Guards a provider.
     pub(crate) fn new(provider: P) -> Guarded<P>
         ensures { result ≡ provider }
     {
         Guarded { provider }
     }
 
-    /// The schema of a type, if the provider has the type.
+    /// Returns the schema of a type, if the provider has the type.
     pub(crate) fn schema(&self, type_name: &str) -> Option<&Schema>
         ensures { MatchOption result
             ((P.meaning self.now).schema_of type_name.now ≡ None)
@@ -81,7 +81,7 @@ impl<P: Provider> Guarded<P> {
         self.provider.schema(type_name)
     }
 
-    /// Asks the provider what was begun. The right to do so is spent.
+    /// Calls the provider with a begun request. This spends the right to do so.
     pub(crate) fn call<'a>(&'a self, begun: Begun<'a>) -> LoggedCall<'a, P>
         ensures provider { result.provider.now ≡ self.now }
         ensures request { result.request.now ≡ begun.entry.request.now }
@@ -98,21 +98,21 @@ impl<P: Provider> Guarded<P> {
 }
 
 impl<P: Provider> LoggedCall<'_, P> {
-    /// What was asked.
+    /// Returns the request.
     pub(crate) fn request(&self) -> &Request
         ensures { result.now ≡ self.now.request.now }
     {
         self.request
     }
 
-    /// What was replied, as it is to be told.
+    /// Returns the reply, for writing it to the log.
     pub(crate) fn reply(&self) -> &Reply
         ensures { result.now ≡ self.now.reply }
     {
         &self.reply
     }
 
-    /// The reply, given out by the line that tells it, or where the log is lost.
+    /// Returns the reply, given the line that logs it or the evidence that the log is lost.
     pub(crate) fn into_reply(self, _told: Result<Added<'_>, Lost>) -> Reply
         requires { IfOk _told (λ added. IsEntryLine (replied (asked self.request.now) (answered self.reply)) added.text.now) }
         ensures { result ≡ self.entry.reply }

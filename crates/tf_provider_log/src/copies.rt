@@ -8,7 +8,7 @@ use std::alloc::{AllocError, Global};
 use tf_provider_protocol::{Reply, Request};
 use tf_value_data::{Value, copy};
 
-/// A copy of a request.
+/// Copies a request.
 pub(crate) fn copy_request(alloc: Global, request: &Request) -> Result<Request, AllocError>
     ensures { IfOk result (λ r. asked r ≡ asked request.now) }
 {
@@ -27,7 +27,7 @@ pub(crate) fn copy_request(alloc: Global, request: &Request) -> Result<Request, 
     })
 }
 
-/// A copy of a reply.
+/// Copies a reply.
 pub(crate) fn copy_reply(alloc: Global, reply: &Reply) -> Result<Reply, AllocError>
     ensures { IfOk result (λ r. answered r ≡ answered reply.now) }
 {
@@ -46,7 +46,7 @@ pub(crate) fn copy_reply(alloc: Global, reply: &Reply) -> Result<Reply, AllocErr
     }
 }
 
-/// A copy of a text, where there is one.
+/// Copies a text, if there is one.
 fn copy_text(alloc: Global, text: &Option<String>) -> Result<Option<String>, AllocError>
     ensures { IfOk result (λ t. option_map string_bytes t ≡ option_map string_bytes text.now) }
 {
@@ -59,7 +59,7 @@ fn copy_text(alloc: Global, text: &Option<String>) -> Result<Option<String>, All
     }
 }
 
-/// A copy of a value, where there is one.
+/// Copies a value, if there is one.
 fn copy_value(value: &Option<Value>) -> Result<Option<Value>, AllocError>
     ensures { IfOk result (λ v. option_map tree_of v ≡ option_map tree_of value.now) }
 {

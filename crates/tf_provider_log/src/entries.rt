@@ -1,4 +1,4 @@
-//! What the entries of a log tell.
+//! What the entries of a log say.
 
 ghost use Rattle.std.specs.List.{list_any};
 ghost use Rattle.std.specs.Prelude.{◌≡◌, IfOk, filter, not, map, option_map};
@@ -12,8 +12,8 @@ use crate::same::is_same;
 use std::alloc::{AllocError, Global};
 use tf_provider_protocol::{Provider, Reply, Request};
 
-/// The entries of each provider, in their order: those of the types whose first provider it is. Entries of a type that no
-/// provider has are let go.
+/// Splits entries by provider, in their order: each provider gets those of the types whose first provider it is.
+/// Entries of a type that no provider has are dropped.
 pub fn split(
     alloc: Global,
     entries: Vec<LogEntry>,
@@ -32,7 +32,7 @@ pub fn split(
     Ok(lists)
 }
 
-/// The entries whose type a provider has, and the others.
+/// Separates the entries whose type a provider has from the others.
 fn part(
     alloc: Global,
     entries: Vec<LogEntry>,
@@ -53,14 +53,14 @@ fn part(
     Ok((own, others))
 }
 
-/// Whether a provider has the type of an entry.
+/// Returns whether a provider has the type of an entry.
 fn has_its_type(provider: &Box<dyn Provider + Sync>, entry: &LogEntry) -> bool
     ensures { result ≡ has_its_type (meaning provider.now) (log_entry_of entry.now) }
 {
     provider.schema(type_in(entry)).is_some()
 }
 
-/// The type of the object that an entry is about.
+/// Returns the type of the object that an entry is about.
 fn type_in(entry: &LogEntry) -> &str
     ensures { result.now ≡ type_in (log_entry_of entry.now) }
 {
@@ -70,8 +70,8 @@ fn type_in(entry: &LogEntry) -> &str
     }
 }
 
-/// Copies of the requests that are begun and of which no entry tells that they have ended, in their order. What they ask for
-/// may have been done.
+/// Returns copies of the requests that are begun and that no entry says have ended, in their order. They may have
+/// been carried out.
 pub fn in_flight(alloc: Global, entries: &[LogEntry]) -> Result<Vec<Request>, AllocError>
     ensures { IfOk result (λ requests. map asked requests.items ≡ in_flight (map log_entry_of entries.now)) }
 {
@@ -85,7 +85,7 @@ pub fn in_flight(alloc: Global, entries: &[LogEntry]) -> Result<Vec<Request>, Al
     Ok(requests)
 }
 
-/// The request that an entry tells to be begun, where no entry of a log tells that it has ended.
+/// Returns the request that an entry says is begun, if no entry of a log says that it has ended.
 fn open_of<'a>(entries: &[LogEntry], entry: &'a LogEntry) -> Option<&'a Request>
     ensures { option_map (λ request. asked request.now) result ≡ open_of (map log_entry_of entries.now) (log_entry_of entry.now) }
 {
@@ -101,7 +101,7 @@ fn open_of<'a>(entries: &[LogEntry], entry: &'a LogEntry) -> Option<&'a Request>
     }
 }
 
-/// Whether an entry tells that such a request has ended.
+/// Returns whether an entry says that the same request has ended.
 fn has_ended(entries: &[LogEntry], request: &Request) -> bool
     ensures { result ≡ list_any (ends (asked request.now)) (map log_entry_of entries.now) }
 {
@@ -113,7 +113,7 @@ fn has_ended(entries: &[LogEntry], request: &Request) -> bool
     false
 }
 
-/// Whether this entry tells that such a request has ended.
+/// Returns whether this entry says that the same request has ended.
 fn ends(request: &Request, entry: &LogEntry) -> bool
     ensures { result ≡ ends (asked request.now) (log_entry_of entry.now) }
 {
@@ -123,7 +123,7 @@ fn ends(request: &Request, entry: &LogEntry) -> bool
     }
 }
 
-/// How many entries tell an answer.
+/// Counts the entries with an answer.
 pub fn answer_count(entries: &[LogEntry]) -> usize
     ensures { result ≡ answer_count (map log_entry_of entries.now) }
 {
@@ -136,7 +136,7 @@ pub fn answer_count(entries: &[LogEntry]) -> usize
     count
 }
 
-/// Whether an entry tells an answer.
+/// Returns whether an entry has an answer.
 fn has_answer(entry: &LogEntry) -> bool
     ensures { result ≡ has_answer (log_entry_of entry.now) }
 {

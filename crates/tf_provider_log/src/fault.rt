@@ -7,7 +7,7 @@ use std::fmt;
 /// Why an entry isn't written.
 #[derive(Clone, Copy, Debug, PartialEq, Eq)]
 pub enum Unwritten {
-    /// A value of it has no form: it holds a set, or is nested too deep.
+    /// A value of it doesn't fit a line: it holds a set, or is more than 100 deep.
     Unfit,
     /// Memory ran out.
     OutOfMemory,
@@ -24,12 +24,12 @@ impl From<AllocError> for Unwritten {
     }
 }
 
-/// What is wrong with a whole line.
+/// The fault of a whole line.
 #[derive(Clone, Copy, Debug, PartialEq, Eq)]
 pub enum LineFault {
     /// It isn't the first line of a log.
     NotAHeader,
-    /// It is the first line of a log of a version that isn't known.
+    /// It is the first line of a log of an unknown version.
     UnknownVersion,
     /// It isn't the line of an entry.
     NotAnEntry,

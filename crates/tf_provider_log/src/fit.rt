@@ -1,4 +1,4 @@
-//! Which requests and replies have a form.
+//! Which requests and replies fit a line.
 
 ghost use Rattle.std.specs.Prelude.{◌≡◌, ◌&&◌, option_map};
 ghost use Rattle.tf_provider_log.specs.Fit.{fits, option_fits, request_fits, answer_fits};
@@ -8,7 +8,7 @@ ghost use Rattle.tf_value_data.specs.Tree.{tree_of};
 use tf_provider_protocol::{Reply, Request};
 use tf_value_data::{Value, depth, has_no_set};
 
-/// How deep a value may be that stands in a line.
+/// The largest depth of a value in a line.
 const MAX_DEPTH: u32 = 100;
 
 fn fits(value: &Value) -> bool
@@ -26,7 +26,7 @@ fn option_fits(value: &Option<Value>) -> bool
     }
 }
 
-/// Whether the values of a request fit a line.
+/// Returns whether the values of a request fit a line.
 pub(crate) fn request_fits(request: &Request) -> bool
     ensures { result ≡ request_fits (asked request.now) }
 {
@@ -43,7 +43,7 @@ fn reply_fits(reply: &Reply) -> bool
     }
 }
 
-/// Whether the values of a request and of the reply to it fit a line.
+/// Returns whether the values of a request and of the reply to it fit a line.
 pub(crate) fn both_fit(request: &Request, reply: &Reply) -> bool
     ensures { result ≡ (request_fits (asked request.now) && answer_fits (answered reply.now)) }
 {

@@ -1,4 +1,4 @@
-//! The JSON forms of what a line tells.
+//! The JSON forms of what a line says.
 
 ghost use Rattle.std.specs.Prelude.{◌≡◌, IfOk, OnOk, option_map, string_bytes, codes};
 ghost use Rattle.serde_json.specs.Data as json;
@@ -60,7 +60,7 @@ fn members_form(
     Ok(object)
 }
 
-// A text, or null.
+// Builds the form of an optional text: a string, or null.
 fn text_form(text: &Option<String>) -> Result<Json, AllocError>
     ensures { IfOk result (λ j. view j ≡ text_form (option_map string_bytes text.now)) }
 {
@@ -70,7 +70,7 @@ fn text_form(text: &Option<String>) -> Result<Json, AllocError>
     }
 }
 
-// An array of the value, or an empty one.
+// Builds the form of an optional value: an array of the value, or an empty one.
 fn option_form(alloc: Global, value: &Option<Value>) -> Result<Json, AllocError>
     ensures held { OnOk result (IsOptionHeld (option_map tree_of value.now)) }
     ensures value { IfOk result (λ j. view j ≡ option_form (option_map tree_of value.now)) }
@@ -97,7 +97,7 @@ fn op_word(op: Op) -> &'static str
     }
 }
 
-/// The form of a request.
+/// Builds the form of a request.
 pub(crate) fn request_form(alloc: Global, request: &Request) -> Result<Json, AllocError>
     ensures held { OnOk result (IsRequestHeld (asked request.now)) }
     ensures value { IfOk result (λ j. view j ≡ request_form (asked request.now)) }
@@ -162,7 +162,7 @@ fn failure_form(alloc: Global, message: &String, object: Json) -> Result<Json, A
     json!(in alloc; {"failed": message, "object": object})
 }
 
-/// The form of a request that is begun.
+/// Builds the form of an entry that a request is begun.
 pub(crate) fn begun_form(alloc: Global, request: &Request) -> Result<Json, AllocError>
     ensures held { OnOk result (IsRequestHeld (asked request.now)) }
     ensures value { IfOk result (λ j. view j ≡ entry_form (begun (asked request.now))) }
@@ -172,7 +172,7 @@ pub(crate) fn begun_form(alloc: Global, request: &Request) -> Result<Json, Alloc
     Ok(form)
 }
 
-/// The form of a request and what was answered to it.
+/// Builds the form of an entry with a request and its answer.
 pub(crate) fn answered_form(
     alloc: Global,
     request: &Request,
@@ -188,7 +188,7 @@ pub(crate) fn answered_form(
     Ok(form)
 }
 
-/// The form of what an apply was given.
+/// Builds the form of a header.
 pub(crate) fn header_form(alloc: Global, header: &Header) -> Result<Json, AllocError>
     ensures { IfOk result (λ j. view j ≡ header_form header.now) }
 {

@@ -1,8 +1,9 @@
 //! The log of an apply: its text, and its use.
 //!
-//! The text tells what was given, and of each call that it was begun and what was answered. In use, a provider is called only
-//! once the line that says so is in the log, and what it replies is given out only once its line was written or the log is known
-//! to be lost. What a log tells is answered again without a call, so that an apply which was cut off is carried out from its log.
+//! The text says the inputs of the apply, and of each call that it was begun and how it was answered. A provider is
+//! called only after the line that says so is in the log. Its reply is returned only after the line of the reply is
+//! written, or if the log is known to be lost. Answers in a log are replayed without a call, so an interrupted apply
+//! is carried out from its log.
 #![tactic(auto)]
 
 mod calling;

@@ -9,8 +9,9 @@ use std::alloc::Global;
 use std::sync::Arc;
 use tf_provider_protocol::{Provider, Reply, Request, Schema};
 
-/// A provider that is asked nothing before the log tells that it is begun, and whose replies are in the log before they are given
-/// out. Where the log can't be written, the provider isn't asked, and there is no memory for the request. Several may share a log.
+/// A provider that is called only after the log says that the request is begun, and whose replies are in the log
+/// before they are returned. If the log can't be written, the provider isn't called, and the reply is `NoMemory`.
+/// Several providers may share a log.
 #[derive(Drop)]
 pub struct Logged<P: Provider, S: Sink> {
     alloc: Global,
@@ -19,7 +20,7 @@ pub struct Logged<P: Provider, S: Sink> {
 }
 
 impl<P: Provider, S: Sink> Logged<P, S> {
-    /// A provider whose calls are logged from here on.
+    /// Wraps a provider so that its calls are logged.
     pub fn new(alloc: Global, log: Arc<OpenLog<S>>, provider: P) -> Logged<P, S>
         ensures { ⟦<Logged<P, S> as Provider>⟧.meaning result ≡ P.meaning provider }
     {

@@ -1,4 +1,4 @@
-//! A log that lines are added to.
+//! A log to which lines are added.
 
 ghost use Rattle.std.specs.Prelude.{◌≡◌, IfOk};
 ghost use Rattle.tf_provider_log.specs.LogEntry.{replied};
@@ -36,19 +36,19 @@ impl fmt::Display for NotStarted {
 
 impl Error for NotStarted {}
 
-/// A request isn't in the log as begun, so no provider may be asked it.
+/// The request isn't in the log as begun, so no provider may be called with it.
 #[derive(Clone, Copy, Debug, PartialEq, Eq)]
 pub(crate) struct NotBegun;
 
-/// It may be told what was given.
+/// A header may write the inputs of the apply.
 impl Telling for Header {
     ghost use Rattle.tf_provider_log.specs.Line.{IsHeaderLine};
 
     ghost may_tell = { λ header text. IsHeaderLine header text };
 }
 
-/// A log that lines are added to, by the calls of providers that share it. Once a line couldn't be written it is lost: no line
-/// is added any more, and no request is begun.
+/// A log to which the providers that share it add lines by their calls. Once a line couldn't be written, the log is
+/// lost: no line is added and no request is begun after that.
 #[derive(Drop)]
 pub struct OpenLog<S: Sink> {
     lines: Lines<S>,
@@ -56,7 +56,7 @@ pub struct OpenLog<S: Sink> {
 }
 
 impl<S: Sink> OpenLog<S> {
-    /// A log that isn't started. No request is begun in it.
+    /// Builds a log that isn't started. No request is begun in it.
     pub fn new(sink: S) -> OpenLog<S> {
         OpenLog {
             lines: Lines::new(sink),
@@ -64,8 +64,8 @@ impl<S: Sink> OpenLog<S> {
         }
     }
 
-    /// Starts the log, with the line that tells what the apply was given. Requests can be begun from here on. A log is started
-    /// once.
+    /// Starts the log, with the line that says the inputs of the apply. After that, requests can be begun. A log is
+    /// started only once.
     pub fn start(&self, alloc: Global, header: &Header) -> Result<(), NotStarted> {
         if self.is_open.load(Ordering::SeqCst) {
             return Err(NotStarted::NotWritten);
@@ -82,13 +82,14 @@ impl<S: Sink> OpenLog<S> {
         }
     }
 
-    /// Whether a line couldn't be written. Then the log doesn't tell all that was done.
+    /// Returns whether a line couldn't be written. Then the log doesn't say all that was done.
     pub fn is_lost(&self) -> bool {
         self.lines.is_lost()
     }
 
-    /// Tells that a request is begun: the right to ask a provider it. Refused where the log isn't started or is lost, where the
-    /// request has no line, and where the line can't be written, by which the log is lost.
+    /// Writes that a request is begun, and returns the right to call a provider with it. Fails if the log isn't
+    /// started or is lost, if no line can be built for the request, or if the line can't be written; in the last case
+    /// the log is lost.
     pub(crate) fn begin<'a>(
         &self,
         alloc: Global,
@@ -108,7 +109,7 @@ impl<S: Sink> OpenLog<S> {
         }
     }
 
-    /// Tells what a provider replied, and gives the reply out. Where that can't be written the log is lost.
+    /// Writes a provider's reply, and returns the reply. If it can't be written, the log is lost.
     pub(crate) fn end<P: Provider>(&self, alloc: Global, called: LoggedCall<'_, P>) -> Reply
         requires { IsTrueOf (P.meaning called.provider.now) (replied (asked called.request.now) (answered called.reply)) }
         ensures { result ≡ called.entry.reply }

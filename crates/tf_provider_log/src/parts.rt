@@ -13,7 +13,7 @@ use std::alloc::{AllocError, Global};
 use tf_provider_protocol::{Op, Reply, Request};
 use tf_value_data::Value;
 
-/// A string's text.
+/// Reads a string as a text.
 pub(crate) fn text_from(json: Option<&Json>) -> Result<Option<String>, AllocError>
     ensures { IfOk result (λ o. option_map string_bytes o ≡ text_from (option_map (λ v. view v.now) json.entry)) }
 {
@@ -23,7 +23,7 @@ pub(crate) fn text_from(json: Option<&Json>) -> Result<Option<String>, AllocErro
     }
 }
 
-/// A string's text, or none for null.
+/// Reads a string as a text, and null as no text.
 pub(crate) fn option_text_from(json: Option<&Json>) -> Result<Option<Option<String>>, AllocError>
     ensures { IfOk result (λ o. option_map (option_map string_bytes) o ≡ option_text_from (option_map (λ v. view v.now) json.entry)) }
 {
@@ -34,7 +34,7 @@ pub(crate) fn option_text_from(json: Option<&Json>) -> Result<Option<Option<Stri
     }
 }
 
-// The value of an array of one item, or none for an empty one.
+// Reads an array of one item as the item's value, and an empty one as no value.
 fn option_from(alloc: Global, json: Option<&Json>) -> Result<Option<Option<Value>>, AllocError>
     ensures { IfOk result (λ o. option_map (option_map tree_of) o ≡ option_from (option_map (λ v. view v.now) json.entry)) }
 {
@@ -81,7 +81,7 @@ fn op_from(json: Option<&Json>) -> Option<Op>
     }
 }
 
-/// The request that a tree tells.
+/// Reads the request that a tree says.
 pub(crate) fn request_from(alloc: Global, json: &Json) -> Result<Option<Request>, AllocError>
     ensures { IfOk result (λ r. option_map asked r ≡ request_from (view json.now)) }
 {
@@ -146,7 +146,7 @@ fn reply_of_members(
     }
 }
 
-/// The reply that a tree tells.
+/// Reads the reply that a tree says.
 pub(crate) fn reply_from(alloc: Global, json: &Json) -> Result<Option<Reply>, AllocError>
     ensures { IfOk result (λ o. option_map answered o ≡ reply_from (view json.now)) }
 {

@@ -13,13 +13,13 @@ use crate::parts::{option_text_from, reply_from, request_from, text_from};
 use serde_json::Value as Json;
 use std::alloc::{AllocError, Global};
 
-/// The log that bytes are: its lines are what stands before each newline. `None` where there is no whole line; what
-/// follows the last newline is torn, and is passed over, but no line is.
+/// Reads bytes as a log: its lines are what is before each newline. Returns `None` if no line is whole. What follows
+/// the last newline was cut off and is ignored, but no line is.
 ///
 /// # Errors
 ///
-/// `Line` with the number of the first whole line that isn't what it has to be, from 1, and what is wrong with it;
-/// `OutOfMemory` where there is no memory.
+/// Fails with `Line` if a whole line isn't what it has to be: the number of the first such line, counted from 1, and
+/// its fault. Fails with `OutOfMemory` if memory runs out.
 pub fn read_log(alloc: Global, bytes: &[u8]) -> Result<Option<Log>, LogFault>
     ensures ok { IfOk result (λ log. log_in (lines_of bytes.now) ≡ Ok (option_map log_of log)) }
     ensures err { IfErr result (IsUnread bytes.now) }
@@ -32,7 +32,7 @@ pub fn read_log(alloc: Global, bytes: &[u8]) -> Result<Option<Log>, LogFault>
     Ok(Some(Log { header, entries }))
 }
 
-// The first line, without its newline, and what follows it.
+// Returns the first line, without its newline, and what follows it.
 fn next_line(bytes: &[u8]) -> Option<(&[u8], &[u8])>
     ensures { MatchOption result (lines_of bytes.now ≡ [])
         (λ p. (lines_of bytes.now ≡ p.0.now ∷ lines_of p.1.now) × (length p.1.now < length bytes.now)) }
@@ -45,7 +45,7 @@ fn next_line(bytes: &[u8]) -> Option<(&[u8], &[u8])>
     None
 }
 
-// The entries of lines of which the first has the number 2.
+// Reads lines as entries. The first of these lines has the number 2.
 fn read_entries(alloc: Global, bytes: &[u8]) -> Result<Vec<LogEntry>, LogFault>
     ensures ok { IfOk result (λ entries. entries_in 2 (lines_of bytes.now) ≡ Ok (map log_entry_of entries.items)) }
     ensures err { IfErr result (IsEntryRefused (lines_of bytes.now)) }
@@ -70,7 +70,7 @@ fn push(entries: &mut Vec<LogEntry>, entry: LogEntry) -> Result<(), AllocError>
     Ok(entries.push(entry)?)
 }
 
-// What a line tells, where it is the line of an entry.
+// Reads the entry that a line says, if it is the line of one.
 fn read_entry(alloc: Global, line: &[u8]) -> Result<Option<LogEntry>, AllocError>
     ensures { IfOk result (λ entry. option_map log_entry_of entry ≡ entry_in line.now) }
 {
@@ -83,7 +83,7 @@ fn read_entry(alloc: Global, line: &[u8]) -> Result<Option<LogEntry>, AllocError
     }
 }
 
-// The JSON tree of a line.
+// Reads the JSON tree of a line.
 fn read_tree(alloc: Global, line: &[u8]) -> Result<Option<Json>, AllocError>
     ensures { IfOk result (λ tree. option_map view tree ≡ tree_in line.now) }
 {
@@ -94,7 +94,7 @@ fn read_tree(alloc: Global, line: &[u8]) -> Result<Option<Json>, AllocError>
     }
 }
 
-// The entry that a tree tells.
+// Reads the entry that a tree says.
 fn entry_from(alloc: Global, json: &Json) -> Result<Option<LogEntry>, AllocError>
     ensures { IfOk result (λ entry. option_map log_entry_of entry ≡ entry_from (view json.now)) }
 {
@@ -148,7 +148,7 @@ fn fault_of_version(version: Option<i128>) -> LineFault
     }
 }
 
-// What a log's first line tells, where it is such a line.
+// Reads the header that a log's first line says.
 fn read_header(alloc: Global, line: &[u8]) -> Result<Header, LogFault>
     ensures ok { IfOk result (λ header. header_in line.now ≡ Some header) }
     ensures err { IfErr result (IsHeaderRefused line.now) }
@@ -165,7 +165,7 @@ fn read_header(alloc: Global, line: &[u8]) -> Result<Header, LogFault>
     }
 }
 
-// What a tree tells that an apply was given.
+// Reads the header that a tree says.
 fn header_from(alloc: Global, json: &Json) -> Result<Option<Header>, AllocError>
     ensures { IfOk result (λ header. header ≡ header_from (view json.now)) }
 {

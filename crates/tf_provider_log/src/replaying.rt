@@ -11,8 +11,8 @@ use crate::same::is_same;
 use std::alloc::Global;
 use tf_provider_protocol::{Provider, Reply, Request, Schema};
 
-/// A provider that answers from the entries of a log, with the schemas of the provider that they are of, which it asks nothing
-/// else. Where no entry tells an answer, there is no memory for the request.
+/// A provider that answers from the entries of a log. It asks the provider of these entries only for schemas. If no
+/// entry answers the request, the reply is `NoMemory`.
 #[derive(Drop)]
 pub struct Replayed<P: Provider> {
     alloc: Global,
@@ -21,7 +21,7 @@ pub struct Replayed<P: Provider> {
 }
 
 impl<P: Provider> Replayed<P> {
-    /// The entries of a provider in its place.
+    /// Replaces a provider by its entries.
     pub fn new(alloc: Global, entries: Vec<LogEntry>, provider: P) -> Replayed<P>
         ensures { ⟦<Replayed<P> as Provider>⟧.meaning result ≡ replayed (map log_entry_of entries.items) (P.meaning provider) }
     {
@@ -59,7 +59,7 @@ impl<P: Provider> Provider for Replayed<P> {
     }
 }
 
-/// The first answer that entries tell to such a request.
+/// Returns the first answer of the entries to the same request.
 fn first_answer<'a>(entries: &'a [LogEntry], request: &Request) -> Option<&'a Reply>
     ensures { option_and_then (λ reply. answered reply.now) result ≡ answer_in (map log_entry_of entries.now) (asked request.now) }
 {
@@ -71,7 +71,7 @@ fn first_answer<'a>(entries: &'a [LogEntry], request: &Request) -> Option<&'a Re
     None
 }
 
-/// The answer that an entry tells, where it is one to such a request.
+/// Returns the answer of an entry, if it answers the same request.
 fn answer_of<'a>(entry: &'a LogEntry, request: &Request) -> Option<&'a Reply>
     ensures { option_map (λ reply. answered reply.now) result ≡ option_map Some (answer_of (log_entry_of entry.now) (asked request.now)) }
 {
@@ -87,7 +87,7 @@ fn answer_of<'a>(entry: &'a LogEntry, request: &Request) -> Option<&'a Reply>
     }
 }
 
-/// A reply that answers something: it isn't want of memory.
+/// Returns the reply, unless it is `NoMemory`.
 fn telling(reply: &Reply) -> Option<&Reply>
     ensures { option_map (λ r. answered r.now) result ≡ option_map Some (answered reply.now) }
 {

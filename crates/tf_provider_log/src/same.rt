@@ -1,4 +1,4 @@
-//! Whether two requests are the same.
+//! Comparison of requests.
 
 ghost use Rattle.std.specs.Prelude.{◌≡◌, option_map, string_bytes};
 ghost use Rattle.std.specs.Str.{bytes_eq};
@@ -9,7 +9,7 @@ ghost use Rattle.tf_value_data.specs.Tree.{same, tree_of};
 use tf_provider_protocol::Request;
 use tf_value_data::Value;
 
-/// Whether two requests are to do the same, to the same object, with the same prior and wanted object.
+/// Returns whether two requests have the same operation on the same object, with the same prior and requested object.
 pub(crate) fn is_same(one: &Request, other: &Request) -> bool
     ensures { result ≡ is_same (asked one.now) (asked other.now) }
 {
@@ -21,7 +21,7 @@ pub(crate) fn is_same(one: &Request, other: &Request) -> bool
         && is_same_value(&one.object, &other.object)
 }
 
-/// Whether both texts are there and the same, or neither is.
+/// Returns whether two texts are both present and equal, or both absent.
 fn is_same_text(one: &Option<String>, other: &Option<String>) -> bool
     ensures { result ≡ is_same_option bytes_eq (option_map string_bytes one.now) (option_map string_bytes other.now) }
 {
@@ -32,7 +32,7 @@ fn is_same_text(one: &Option<String>, other: &Option<String>) -> bool
     }
 }
 
-/// Whether both values are there and the same, or neither is.
+/// Returns whether two values are both present and equal, or both absent.
 fn is_same_value(one: &Option<Value>, other: &Option<Value>) -> bool
     ensures { result ≡ is_same_option same (option_map tree_of one.now) (option_map tree_of other.now) }
 {

@@ -5,8 +5,8 @@ use crate::replaying::Replayed;
 use crate::sink::Sink;
 use tf_provider_protocol::Provider;
 
-/// A provider whose calls are logged may be shared by threads where it and the sink may be, and so may one that answers from
-/// a log.
+/// Checks that threads may share a provider whose calls are logged, and one that answers from a log, if they may
+/// share the provider and the sink.
 pub fn providers_are_shared<P: Provider + Sync + Send, S: Sink + Sync + Send>(
     logged: &Logged<P, S>,
     replayed: &Replayed<P>,
@@ -15,5 +15,5 @@ pub fn providers_are_shared<P: Provider + Sync + Send, S: Sink + Sync + Send>(
     share(replayed);
 }
 
-/// Takes what threads may share.
+/// Requires a value that threads may share.
 fn share<T: Sync>(_shared: &T) {}

@@ -1,9 +1,9 @@
-//! Where the lines of a log are kept.
+//! The storage of a log's lines.
 
 use std::error::Error;
 use std::fmt;
 
-/// A text wasn't added, or only a part of it was.
+/// The text wasn't added, or only a part of it was.
 #[derive(Clone, Copy, Debug, PartialEq, Eq)]
 pub struct NotAdded;
 
@@ -15,9 +15,9 @@ impl fmt::Display for NotAdded {
 
 impl Error for NotAdded {}
 
-/// What a log is kept in, as a file. It is shared by threads, so a text is added whole or not at all beside others that are
-/// added at the same time.
+/// The storage of a log, such as a file. Threads share it, so each text is added whole or not at all, even if others
+/// are added at the same time.
 pub trait Sink: Drop {
-    /// Adds a text at the end. At `Ok` it is kept for good.
+    /// Adds a text at the end. After `Ok` it is stored permanently.
     fn add(&self, text: &str) -> Result<(), NotAdded>;
 }

@@ -10,7 +10,7 @@ use std::alloc::{AllocError, Global};
 use std::collections::BTreeMap;
 use tf_value_data::Value;
 
-/// The value that a tree reads as, with an unknown part for each number that isn't a whole one of 64 bits with a sign.
+/// Reads a tree as a value, with an unknown part for each number that isn't a whole one of 64 bits with a sign.
 #[cycle(read)]
 pub(crate) fn tree_from(alloc: Global, json: &Json) -> Result<Value, AllocError>
     ensures { IfOk result (λ v. tree_of v ≡ tree_from (view json.now)) }

@@ -18,7 +18,7 @@ use serde_json::Value as Json;
 use std::alloc::{AllocError, Global};
 use tf_provider_protocol::{Reply, Request};
 
-/// The first line of a log, with its newline. Refused only where there is no memory.
+/// Builds the first line of a log, with its newline. Fails only if memory runs out.
 #[tactic(auto, using(crate::proofs::ReadBack::header_is_line))]
 pub fn header_line(alloc: Global, header: &Header) -> Result<String, AllocError>
     ensures { IfOk result (λ text. IsHeaderLine header.now (string_bytes text)) }
@@ -28,8 +28,8 @@ pub fn header_line(alloc: Global, header: &Header) -> Result<String, AllocError>
     Ok(line)
 }
 
-/// The line that tells that a request is begun, with its newline. Refused `Unfit` exactly where a value of the request
-/// holds a set or is more than 100 deep, else only where there is no memory.
+/// Builds the line that says that a request is begun, with its newline. Fails with `Unfit` exactly if a value of the
+/// request holds a set or is more than 100 deep, and otherwise only if memory runs out.
 pub fn begun_line(alloc: Global, request: &Request) -> Result<String, Unwritten>
     ensures ok { IfOk result (λ text. IsEntryLine (begun (asked request.now)) (string_bytes text)) }
     ensures fits { OnOk result (request_fits (asked request.now) ≡ true) }
@@ -43,8 +43,8 @@ pub fn begun_line(alloc: Global, request: &Request) -> Result<String, Unwritten>
     Ok(line)
 }
 
-/// The line that tells what was answered to a request, with its newline. Refused `Unfit` exactly where a value of the
-/// request or of the reply holds a set or is more than 100 deep, else only where there is no memory.
+/// Builds the line that says the answer to a request, with its newline. Fails with `Unfit` exactly if a value of the
+/// request or of the reply holds a set or is more than 100 deep, and otherwise only if memory runs out.
 pub fn answered_line(alloc: Global, request: &Request, reply: &Reply) -> Result<String, Unwritten>
     ensures ok { IfOk result (λ text. IsEntryLine (replied (asked request.now) (answered reply.now)) (string_bytes text)) }
     ensures fits { OnOk result ((request_fits (asked request.now) && answer_fits (answered reply.now)) ≡ true) }
@@ -58,8 +58,8 @@ pub fn answered_line(alloc: Global, request: &Request, reply: &Reply) -> Result<
     Ok(line)
 }
 
-/// A request as JSON in a line of its own, with its newline, for who has to look what came of it. Refused `Unfit` exactly where a
-/// value of it holds a set or is more than 100 deep, else only where there is no memory.
+/// Builds a line with a request as JSON, with its newline, for a user who has to find out what happened to it. Fails
+/// with `Unfit` exactly if a value of it holds a set or is more than 100 deep, and otherwise only if memory runs out.
 pub fn request_line(alloc: Global, request: &Request) -> Result<String, Unwritten>
     ensures ok { IfOk result (λ text. IsRequestLine (asked request.now) (string_bytes text)) }
     ensures fits { OnOk result (request_fits (asked request.now) ≡ true) }
@@ -73,7 +73,7 @@ pub fn request_line(alloc: Global, request: &Request) -> Result<String, Unwritte
     Ok(line)
 }
 
-// The line of a JSON tree, with its newline.
+// Builds the line of a JSON tree, with its newline.
 fn line_of(alloc: Global, tree: &Json) -> Result<String, AllocError>
     ensures { IfOk result (λ text. IsSimple (view tree.now) → depth (view tree.now) ≤ max_depth → IsTreeLine (view tree.now) (string_bytes text)) }
 {

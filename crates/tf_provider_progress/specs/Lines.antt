@@ -1,4 +1,4 @@
--- The lines that tell of a call.
+-- The progress lines of a call.
 use Rattle.std.specs.Prelude.{ℕ, Bool, true, false, if◌then◌else◌, ◌&&◌, ◌/◌, ◌%◌, List, [], ◌∷◌, ◌++◌, length, codes, decimal, nat_lt, not, Option, Some, None}
 use Rattle.std.specs.List.{list_all}
 use Rattle.tf_provider_protocol.specs.Meaning.{Answer, Asked, object, gone}
@@ -11,7 +11,7 @@ abbrev pub deposed_suffix : Option (List ℕ) → List ℕ
 deposed_suffix None = []
 deposed_suffix (Some key) = codes " (deposed " ++ key ++ codes ")"
 
--- the address, and the key of a deposed object, as the plan's text has them
+-- the address, and the key of a deposed object, as in the plan's text
 abbrev pub name : Asked → List ℕ
 name a = a.address ++ deposed_suffix a.deposed
 
@@ -25,15 +25,15 @@ end_word op.Create = codes ": Creation"
 end_word op.Update = codes ": Modifications"
 end_word op.Destroy = codes ": Destruction"
 
--- a character that a terminal shows as it is: one of ASCII that is no control
+-- a character that a terminal shows unchanged: an ASCII character that is no control character
 abbrev pub is_printable : ℕ → Bool
 is_printable b = not (nat_lt b 32) && nat_lt b 127
 
--- at most 80 of them
+-- at most 80 printable characters
 abbrev pub is_plain : List ℕ → Bool
 is_plain bytes = not (nat_lt 80 (length bytes)) && list_all is_printable bytes
 
--- the id, where it is plain: another would break the line, or do something to the terminal
+-- the id, if it is plain: another one would break the line, or control the terminal
 abbrev pub in_brackets : List ℕ → List ℕ
 in_brackets id = if is_plain id then codes " [id=" ++ id ++ codes "]" else []
 
@@ -41,7 +41,7 @@ abbrev pub id_text : Option tree.Tree → List ℕ
 id_text (Some (tree.text id)) = in_brackets id
 id_text _ = []
 
--- an object's attribute `id`, where that is a text
+-- an object's attribute `id`, if it is a text
 abbrev pub id_of : tree.Tree → List ℕ
 id_of t = id_text (part_at (codes "id") t)
 
@@ -49,7 +49,7 @@ abbrev pub id_suffix : Option tree.Tree → List ℕ
 id_suffix None = []
 id_suffix (Some t) = id_of t
 
--- `ADDRESS: Creating...`, and of what is there already its id
+-- `ADDRESS: Creating...`, with the id of the prior object
 abbrev pub begun_line : Asked → List ℕ
 begun_line a = name a ++ begin_word a.op ++ id_suffix a.prior ++ 10 ∷ []
 
@@ -60,20 +60,20 @@ duration s =
     else (if nat_lt s 3600 then codes " after " ++ decimal (s / 60 % 60) ++ codes "m" ++ decimal (s % 60) ++ codes "s"
     else codes " after " ++ decimal (s / 3600) ++ codes "h" ++ decimal (s / 60 % 60) ++ codes "m" ++ decimal (s % 60) ++ codes "s")
 
--- how long the call took, where the clock told
+-- how long the call took, if the clock could be read
 abbrev pub after : Option ℕ → List ℕ
 after None = []
 after (Some seconds) = duration seconds
 
--- The answer is what was asked for: an object where one was to be made or changed, and none where it was to be destroyed. Whether
--- the object is the one that was promised is told later, with the diagnostics.
+-- The answer is what was asked for: an object for a create or an update, and no object for a destroy. Whether the
+-- object is the promised one is reported later, with the diagnostics.
 abbrev pub ended_well : Op → Option Answer → Bool
 ended_well op.Create (Some (object t)) = true
 ended_well op.Update (Some (object t)) = true
 ended_well op.Destroy (Some gone) = true
 ended_well _ _ = false
 
--- the object that is there after a call that ended well
+-- the object in the answer of a call that ended well
 abbrev pub object_after : Bool → Option Answer → Option tree.Tree
 object_after true (Some (object t)) = Some t
 object_after _ _ = None

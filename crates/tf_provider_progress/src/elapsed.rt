@@ -1,23 +1,23 @@
-//! How long a call takes.
+//! The duration of a call.
 
 use std::rt::Clock;
 use std::time::Instant;
 
-/// When a call began, where the clock could be read.
+/// The time when a call began, if the clock could be read.
 #[derive(Clone, Copy)]
 pub(crate) struct Watch {
     began: Option<Instant>,
 }
 
 impl Watch {
-    /// A call begins.
+    /// Starts the watch when a call begins.
     pub(crate) fn start<C: Clock>(clock: &C) -> Watch {
         Watch {
             began: Instant::now(clock).ok(),
         }
     }
 
-    /// How many whole seconds have passed since, where the clock could be read both times.
+    /// Returns how many whole seconds have passed since the start, if the clock could be read both times.
     pub(crate) fn seconds<C: Clock>(&self, clock: &C) -> Option<u64> {
         match self.began {
             Some(began) => match began.elapsed(clock) {

@@ -1,4 +1,4 @@
-//! Telling as calls of a provider begin and end.
+//! Progress lines for the calls of a provider.
 #![tactic(auto)]
 
 mod elapsed;

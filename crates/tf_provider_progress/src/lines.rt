@@ -1,4 +1,4 @@
-//! What is told of a call.
+//! The progress lines of a call.
 
 ghost use Rattle.std.specs.List.{list_all};
 ghost use Rattle.std.specs.Prelude.{◌≡◌, ◌++◌, IfOk, OnOk, option_map, string_bytes};
@@ -13,8 +13,8 @@ use tf_value_data::Value;
 /// The longest id that is shown, in bytes.
 const LONGEST: usize = 80;
 
-/// The line of a call that begins: `sim_net.a: Creating...`, and of an object that is there its id, as in
-/// `sim_net.a: Destroying... [id=net-x]`.
+/// Returns the line of a call that begins: `sim_net.a: Creating...`. If there is a prior object, the line has its id,
+/// as in `sim_net.a: Destroying... [id=net-x]`.
 pub(crate) fn begun_line(alloc: Global, request: &Request) -> Result<String, AllocError>
     ensures { IfOk result (λ line. string_bytes line ≡ begun_line (asked request.now)) }
 {
@@ -26,9 +26,9 @@ pub(crate) fn begun_line(alloc: Global, request: &Request) -> Result<String, All
     Ok(line)
 }
 
-/// The line of a call that ended: `sim_net.a: Creation complete after 0s [id=net-x]`, with the id of the object that is there
-/// then, and the seconds where the clock could be read; and `sim_net.a: Creation errored after 0s` where the reply isn't what
-/// was asked for.
+/// Returns the line of a call that ended: `sim_net.a: Creation complete after 0s [id=net-x]`, with the id of the
+/// object in the reply, and with the seconds if the clock could be read. If the reply isn't what was asked for, the
+/// line is `sim_net.a: Creation errored after 0s`.
 pub(crate) fn ended_line(
     alloc: Global,
     request: &Request,
@@ -48,7 +48,7 @@ pub(crate) fn ended_line(
     Ok(line)
 }
 
-/// Adds the address, and the key of a deposed object.
+/// Appends the address, and the key of a deposed object.
 fn push_name(line: &mut String, request: &Request) -> Result<(), AllocError>
     ensures { OnOk result (string_bytes line.new ≡ string_bytes line.old ++ name (asked request.now)) }
 {
@@ -79,7 +79,7 @@ fn end_word(op: Op) -> &'static str
     }
 }
 
-/// Whether a reply is what was asked for: an object where one was to be made or changed, and none where it was to be destroyed.
+/// Returns whether a reply is what was asked for: an object for a create or an update, and no object for a destroy.
 fn ended_well(op: Op, reply: &Reply) -> bool
     ensures { result ≡ ended_well op (answered reply.now) }
 {
@@ -89,7 +89,7 @@ fn ended_well(op: Op, reply: &Reply) -> bool
     }
 }
 
-/// Adds how long a call took, where that is known.
+/// Appends how long a call took, if that is known.
 fn push_after(line: &mut String, seconds: Option<u64>) -> Result<(), AllocError>
     ensures { OnOk result (string_bytes line.new ≡ string_bytes line.old ++ after seconds) }
 {
@@ -114,7 +114,7 @@ fn push_duration(line: &mut String, seconds: u64) -> Result<(), AllocError>
     }
 }
 
-/// Adds the id of the object that is there after a call that ended well.
+/// Appends the id of the object in the reply, if the call ended well.
 fn push_object_id(line: &mut String, is_well: bool, reply: &Reply) -> Result<(), AllocError>
     ensures { OnOk result (string_bytes line.new ≡ string_bytes line.old ++ id_suffix (object_after is_well (answered reply.now))) }
 {
@@ -124,7 +124,7 @@ fn push_object_id(line: &mut String, is_well: bool, reply: &Reply) -> Result<(),
     }
 }
 
-/// Adds the id of an object, where there is one.
+/// Appends the id of an object, if there is one.
 fn push_id(line: &mut String, object: &Option<Value>) -> Result<(), AllocError>
     ensures { OnOk result (string_bytes line.new ≡ string_bytes line.old ++ id_suffix (option_map tree_of object.now)) }
 {
@@ -143,7 +143,7 @@ fn push_id_of(line: &mut String, object: &Value) -> Result<(), AllocError>
     }
 }
 
-/// Adds a text in brackets, where it is one that a terminal shows as it is.
+/// Appends a text in brackets, if a terminal shows it unchanged.
 fn push_plain(line: &mut String, id: &str) -> Result<(), AllocError>
     ensures { OnOk result (string_bytes line.new ≡ string_bytes line.old ++ in_brackets id.now) }
 {
@@ -154,7 +154,7 @@ fn push_plain(line: &mut String, id: &str) -> Result<(), AllocError>
     }
 }
 
-/// Whether a text is short, and of printable characters of ASCII alone.
+/// Returns whether a text is short and has only printable ASCII characters.
 fn is_plain(text: &str) -> bool
     ensures { result ≡ is_plain text.now }
 {

@@ -1,4 +1,4 @@
-//! A provider whose calls are told.
+//! A provider that prints progress lines for its calls.
 
 ghost use Rattle.std.specs.Prelude.{◌≡◌, IfSome};
 ghost use Rattle.tf_provider_protocol.specs.Meaning.{answered, asked};
@@ -10,8 +10,8 @@ use std::alloc::{AllocError, Global};
 use std::rt::Clock;
 use tf_provider_protocol::{Provider, Reply, Request, Schema};
 
-/// A provider of which it is told on a screen as each call begins and ends. Where there is no screen nothing is told, and where
-/// there is no memory for a line that line isn't.
+/// A provider wrapper that prints a line on a screen when a call begins and ends. Without a screen it prints nothing.
+/// Lines that cannot be allocated are skipped.
 #[derive(Drop)]
 pub struct Progress<P: Provider, S: Screen, C: Clock + Drop> {
     alloc: Global,
@@ -21,7 +21,7 @@ pub struct Progress<P: Provider, S: Screen, C: Clock + Drop> {
 }
 
 impl<P: Provider, S: Screen, C: Clock + Drop> Progress<P, S, C> {
-    /// A provider of which it is told from here on, by this clock.
+    /// Wraps a provider, with a screen and a clock.
     pub fn new(alloc: Global, screen: Option<S>, clock: C, provider: P) -> Progress<P, S, C>
         ensures { ⟦<Progress<P, S, C> as Provider>⟧.meaning result ≡ P.meaning provider }
     {
@@ -33,7 +33,7 @@ impl<P: Provider, S: Screen, C: Clock + Drop> Progress<P, S, C> {
         }
     }
 
-    /// Calls the provider, and tells on the screen as the call begins and ends.
+    /// Calls the provider, and prints a line on the screen before and after the call.
     fn apply_before(&self, screen: &S, request: &Request) -> Reply
         ensures { IfSome (answered result) (λ a. a ≡ (P.meaning self.now.provider).answer (asked request.now)) }
     {
@@ -61,7 +61,7 @@ impl<P: Provider, S: Screen, C: Clock + Drop> Provider for Progress<P, S, C> {
     }
 }
 
-/// Shows a line, where there was memory for it.
+/// Shows a line, if there was memory for it.
 fn show<S: Screen>(screen: &S, line: Result<String, AllocError>) {
     if let Ok(line) = line {
         screen.show(line.as_str());

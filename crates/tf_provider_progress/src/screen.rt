@@ -1,15 +1,15 @@
-//! Where a user looks on.
+//! The screen that progress lines are shown on.
 
 use std::io::{Stderr, Write};
 
-/// Where lines are shown to a user who looks on.
+/// A place where lines are shown to a user.
 pub trait Screen: Drop {
-    /// Shows a line, which ends with a newline, by one write, so that lines of threads don't mix. A line that can't be shown is
-    /// passed over.
+    /// Shows a line, which ends with a newline, by one write, so that lines of threads don't mix. Skips a line that
+    /// can't be shown.
     fn show(&self, line: &str);
 }
 
-/// Standard error, as it is.
+/// Writes lines to standard error.
 impl Screen for Stderr {
     fn show(&self, line: &str) {
         let mut writer = self;

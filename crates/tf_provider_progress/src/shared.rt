@@ -1,11 +1,11 @@
-//! What threads may share.
+//! Proof that threads may share a progress provider.
 
 use crate::progress::Progress;
 use crate::screen::Screen;
 use std::rt::Clock;
 use tf_provider_protocol::Provider;
 
-/// A provider whose calls are told may be shared by threads where the provider, the screen and the clock may be.
+/// Shows that threads may share a `Progress` if they may share the provider, the screen and the clock.
 pub fn progress_is_shared<
     P: Provider + Sync + Send,
     S: Screen + Sync + Send,
@@ -14,5 +14,5 @@ pub fn progress_is_shared<
     share(progress);
 }
 
-/// Takes what threads may share.
+/// Accepts any value that threads may share.
 fn share<T: Sync>(_shared: &T) {}

@@ -16,7 +16,8 @@ pub record Asked : Type 0 where
   pub prior : Option Tree
   pub object : Option Tree
 
--- what a provider answers: the object, that it is gone, or a message that it failed with the object that is there
+-- what a provider answers: the object, that it is gone, or that the request failed, with a message and the object
+-- that exists, if there is one
 pub data Answer : Type 0 where
   object : Tree → Answer
   gone : Answer
@@ -39,7 +40,7 @@ asked r =
       object = option_map tree_of r.object;
     }
 
--- what a reply answers; want of memory answers nothing
+-- what a reply answers; out of memory answers nothing
 abbrev pub answered : Reply → Option Answer
 answered (reply.Object v) = Some (object (tree_of v))
 answered reply.Gone = Some gone
@@ -50,6 +51,6 @@ answered reply.NoMemory = None
 abbrev pub first_with : List ℕ → List Meaning → Option Meaning
 first_with name ms = find (λ m. is_some (m.schema_of name)) ms
 
--- the schema that this provider has for the type
+-- the schema of a type: that of the first provider of a list that has the type
 abbrev pub schema_in : List ℕ → List Meaning → Option SchemaView
 schema_in name ms = option_and_then (λ m. m.schema_of name) (first_with name ms)

@@ -1,4 +1,4 @@
--- What a type's objects look like: the attributes and the rule of each.
+-- Schemas: which attributes a type's objects have, and the rule of each.
 use Rattle.std.specs.Prelude.{◌≡◌, ℕ, ◌≤◌, ◌+◌, Bool, true, false, ◌||◌, ◌&&◌, nat_lt, List, [], ◌∷◌, find, length, Option, Some, None, if◌then◌else◌, not, codes, string_bytes}
 use Rattle.std.specs.List.{list_all, list_any}
 use Rattle.std.specs.Ordering.{nat_cmp, is_lt}
@@ -23,7 +23,7 @@ pub record SchemaView : Type 0 where
   pub version : ℕ
   pub attributes : List AttributeView
 
--- the attribute that the code's stands for
+-- the view of an attribute of the code
 abbrev pub attribute_of : Attribute → AttributeView
 attribute_of a = record { name = string_bytes a.name; kind = a.kind; mode = a.mode; force_new = a.force_new }
 
@@ -31,12 +31,12 @@ attribute_of a = record { name = string_bytes a.name; kind = a.kind; mode = a.mo
 abbrev pub is_below : List ℕ → List ℕ → Bool
 is_below a b = is_lt (slice_cmp nat_cmp a b)
 
--- an attribute put in its place among attributes in byte order
+-- attributes in byte order with another inserted in its place
 abbrev pub placed : List AttributeView → AttributeView → List AttributeView
 placed [] a = a ∷ []
 placed (b ∷ bs) a = if is_below b.name a.name then b ∷ placed bs a else a ∷ (b ∷ bs)
 
--- how many attributes stand before a name, from the first one on
+-- the number of attributes before a name
 abbrev pub place_in : List AttributeView → List ℕ → ℕ
 place_in [] name = 0
 place_in (b ∷ bs) name = if is_below b.name name then place_in bs name + 1 else 0
@@ -46,12 +46,12 @@ abbrev pub in_order : List AttributeView → List AttributeView
 in_order [] = []
 in_order (a ∷ rest) = placed (in_order rest) a
 
--- each name comes before all those after it
+-- each name comes before all those after it, in byte order
 abbrev pub ascends : List AttributeView → Bool
 ascends [] = true
 ascends (a ∷ rest) = list_all (λ b. is_below a.name b.name) rest && ascends rest
 
--- names that a resource's body keeps for itself, so that no attribute can have them
+-- names that are reserved in a resource's body, so that no attribute can have them
 abbrev pub is_reserved : List ℕ → Bool
 is_reserved name =
     bytes_eq name (codes "provider") || bytes_eq name (codes "provisioner") || bytes_eq name (codes "connection") || bytes_eq name (codes "count") || bytes_eq name (codes "for_each") || bytes_eq name (codes "depends_on") || bytes_eq name (codes "lifecycle")
@@ -65,8 +65,8 @@ abbrev pub names_differ : List AttributeView → Bool
 names_differ [] = true
 names_differ (a ∷ rest) = not (name_is_in rest a.name) && names_differ rest
 
--- The first thing that is wrong with the attributes of a schema: more than 200 of them, then a name that
--- isn't a name, then a reserved one, then a repeated one.
+-- The first fault of a schema's attributes: more than 200 of them, then a name that isn't a name, then a reserved
+-- name, then a repeated one.
 abbrev pub fault_of : List AttributeView → Option SchemaFault
 fault_of attributes =
     if nat_lt 200 (length attributes) then Some TooMany
@@ -79,8 +79,8 @@ fault_of attributes =
 abbrev pub attribute_named : List ℕ → SchemaView → Option AttributeView
 attribute_named name s = find (λ a. bytes_eq a.name name) s.attributes
 
--- What a schema keeps: at most 200 attributes, in byte order of names that no two of them share, each name
--- a name and none reserved.
+-- What a schema keeps: at most 200 attributes in byte order of their names, which all differ. Each name is a name,
+-- and not reserved.
 pub record IsSchema (s : SchemaView) : Type 0 where
   pub few : length s.attributes ≤ 200
   pub named : list_all (λ a. is_name a.name) s.attributes ≡ true

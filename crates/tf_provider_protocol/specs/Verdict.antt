@@ -1,4 +1,4 @@
--- Whether an answer keeps what was promised, by the request, the answer and the schema alone.
+-- The verdict on an answer, by the request, the answer and the schema alone.
 use Rattle.std.specs.Prelude.{◌≡◌, ℕ, Bool, true, false, ◌&&◌, ◌||◌, List, [], ◌∷◌, map as each, Option, Some, None, if◌then◌else◌, not, option_and_then}
 use Rattle.std.specs.List.{list_all, position_from}
 use Rattle.std.specs.Option.{option_map_or}
@@ -27,7 +27,7 @@ same_names _ _ = false
 abbrev pub names_of : SchemaView → List (List ℕ)
 names_of s = each (λ a. a.name) s.attributes
 
--- A value has exactly a schema's attributes where it is a map whose keys are their names.
+-- A value has exactly a schema's attributes if it is a map whose keys are their names.
 abbrev pub has_attributes : SchemaView → Tree → Bool
 has_attributes s (map es) = same_names (keys_of es) (names_of s)
 has_attributes s _ = false
@@ -46,12 +46,12 @@ is_of_kind kind.Number (whole z) = true
 is_of_kind kind.Bool (boolean b) = true
 is_of_kind _ _ = false
 
--- An attribute that isn't required may be null, and else its value is of its kind.
+-- A null is allowed if the attribute isn't required. Any other value has to be of the attribute's kind.
 abbrev pub is_allowed : AttributeView → Tree → Bool
 is_allowed a null = not (is_required a.mode)
 is_allowed a t = is_of_kind a.kind t
 
--- A value fits an attribute where it may be stored and is allowed.
+-- A value fits an attribute if it may be stored and is allowed.
 abbrev pub fits : AttributeView → Tree → Bool
 fits a t = may_be_stored t && is_allowed a t
 
@@ -59,28 +59,28 @@ fits a t = may_be_stored t && is_allowed a t
 abbrev pub fits_in : Tree → AttributeView → Bool
 fits_in t a = option_map_or (fits a) (part_at a.name t) false
 
--- An object is well formed where it has exactly the schema's attributes, and the value of each fits.
+-- An object is well formed if it has exactly the schema's attributes and the value of each fits.
 abbrev pub well_formed : SchemaView → Tree → Bool
 well_formed s t = has_attributes s t && list_all (fits_in t) s.attributes
 
 abbrev pub IsWellFormed : SchemaView → Tree → Type 0
 IsWellFormed s t = well_formed s t ≡ true
 
--- The outcome of an action is good where the verdict on its reply is good, and so is no other verdict.
+-- The outcome of an action is good if the verdict on its reply is `Good`, and for no other verdict.
 abbrev pub is_good_verdict : Verdict → Bool
 is_good_verdict verdict.Good = true
 is_good_verdict _ = false
 
--- A value that was asked for contradicts the one that is there where it doesn't refine to it.
+-- A requested value contradicts the actual one if it doesn't refine to it.
 abbrev pub contradicts : Option Tree → Option Tree → Bool
 contradicts (Some t) (Some u) = not (refined t u)
 contradicts _ _ = false
 
--- an attribute's wanted value contradicts the one that is there
+-- an attribute's requested value contradicts the actual one
 abbrev pub contradicts_at : Tree → Tree → AttributeView → Bool
 contradicts_at wanted there a = contradicts (part_at a.name wanted) (part_at a.name there)
 
--- the place of the first attribute at which what was asked for contradicts what is there
+-- the place of the first attribute whose requested value contradicts the actual one
 abbrev pub contradiction : SchemaView → Tree → Tree → Option ℕ
 contradiction s wanted there = position_from (contradicts_at wanted there) 0 s.attributes
 
@@ -89,19 +89,19 @@ is_destroy Create = false
 is_destroy Update = false
 is_destroy Destroy = true
 
--- Destroys ask for no object. The object of a create or an update has exactly the schema's attributes.
+-- A destroy needs no object. The object of a create or an update has exactly the schema's attributes.
 abbrev pub asks_fully : Asked → SchemaView → Bool
 asks_fully r s = is_destroy r.op || option_map_or (has_attributes s) r.object false
 
--- An object that answers a create or an update is malformed where it isn't well formed, contradicted at the
--- first attribute that contradicts the request's object, and else good.
+-- An object that answers a create or an update is malformed if it isn't well formed. Otherwise it is contradicted at
+-- the first attribute that contradicts the request's object, if there is one, and else good.
 abbrev pub verdict_on_object : SchemaView → Option Tree → Tree → Verdict
 verdict_on_object s wanted there =
     if not (well_formed s there) then verdict.Malformed
     else option_map_or verdict.Contradicted (option_and_then (λ t. contradiction s t there) wanted) verdict.Good
 
--- The verdict on an answer: want of memory excuses, and a failure is a failure. A destroy is good where the
--- object is gone. A create or an update has to answer with an object.
+-- The verdict on an answer. No answer, as memory ran out, is excused, and a failure is failed. A destroy is good if
+-- the object is gone. A create or an update has to answer with an object.
 abbrev pub verdict_on : Asked → Option Answer → SchemaView → Verdict
 verdict_on r None s = verdict.Excused
 verdict_on r (Some (failed message there)) s = verdict.Failed

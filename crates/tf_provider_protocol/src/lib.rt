@@ -1,8 +1,8 @@
-//! What providers are asked, what they answer, and whether an answer keeps what was promised.
+//! Requests to providers, their replies, and the verdict on a reply.
 //!
-//! A provider has a schema for each of its types, and answers requests to create, update or destroy an
-//! object of a type. A reply is judged by the request, the reply and the schema alone. Calls, and what a
-//! call spends, are another crate's: nothing here knows of permits.
+//! A provider has a schema for each of its types, and answers requests to create, update or destroy an object of a
+//! type. The request, the reply and the schema alone determine the verdict. Calls and permits are in another crate
+//! (`tf_provider`).
 #![tactic(auto)]
 
 pub mod provider;

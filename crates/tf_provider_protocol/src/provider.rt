@@ -6,27 +6,27 @@ ghost use Rattle.tf_provider_protocol.specs.Meaning.{first_with, schema_in};
 use crate::request::{Reply, Request};
 use crate::schema::Schema;
 
-/// What makes, changes and destroys the objects of some types. The law: a schema depends on the provider
-/// and the type alone, and a reply on the provider and the request alone, unless there was no memory; then
-/// nothing was done.
+/// A provider, which creates, updates and destroys the objects of some types. The law: a schema depends only on the
+/// provider and the type, and a reply only on the provider and the request. The exception is a reply that memory ran
+/// out, and then nothing was done.
 pub trait Provider: Drop {
     ghost use Rattle.std.specs.Prelude.{◌≡◌, MatchOption, IfSome, Some, None};
     ghost use Rattle.tf_provider_protocol.specs.Meaning.{Meaning, asked, answered};
 
     ghost meaning: { Self → Meaning };
 
-    /// The schema of a type, if this provider has the type.
+    /// Returns the schema of a type, if this provider has the type.
     fn schema(&self, type_name: &str) -> Option<&Schema>
         ensures { MatchOption result
             ((meaning self.now).schema_of type_name.now ≡ None)
             (λ s. (meaning self.now).schema_of type_name.now ≡ Some s.now) };
 
-    /// Does what is asked, and says what came of it.
+    /// Carries out a request, and returns the outcome.
     fn apply(&self, request: &Request) -> Reply
         ensures { IfSome (answered result) (λ a. a ≡ (meaning self.now).answer (asked request.now)) };
 }
 
-/// The first provider that has a schema for a type.
+/// Returns the first provider that has a schema for a type.
 pub fn first_provider<'a>(
     providers: &'a [Box<dyn Provider + Sync>],
     type_name: &str,
@@ -41,7 +41,7 @@ pub fn first_provider<'a>(
     None
 }
 
-/// The schema of a type: that of the first provider that has one.
+/// Returns the schema of a type: that of the first provider that has one.
 pub fn schema_for<'a>(
     providers: &'a [Box<dyn Provider + Sync>],
     type_name: &str,
@@ -54,7 +54,7 @@ pub fn schema_for<'a>(
     }
 }
 
-/// Whether a provider has a schema for a type.
+/// Returns whether a provider has a schema for a type.
 fn has_type(provider: &Box<dyn Provider + Sync>, type_name: &str) -> bool
     ensures { result ≡ is_some ((meaning provider.now).schema_of type_name.now) }
 {

@@ -13,7 +13,7 @@ use std::fmt;
 use std::marker::Model;
 use tf_config_address::is_name;
 
-/// Which values an attribute takes.
+/// The values that an attribute takes.
 #[derive(Clone, Copy, Debug, PartialEq, Eq)]
 pub enum Kind {
     /// Texts.
@@ -22,7 +22,7 @@ pub enum Kind {
     Number,
     /// Truth values.
     Bool,
-    /// Every value.
+    /// All values.
     Any,
 }
 
@@ -42,24 +42,24 @@ pub enum Mode {
 pub struct Attribute {
     /// Its name within the type.
     pub name: String,
-    /// Which values it takes.
+    /// The values that it takes.
     pub kind: Kind,
     /// Who sets it.
     pub mode: Mode,
-    /// Whether an object is replaced, and not updated, where this attribute changes.
+    /// Whether a change of this attribute replaces the object, instead of updating it.
     pub force_new: bool,
 }
 
-/// Why no schema is made of some attributes.
+/// Why some attributes make no schema.
 #[derive(Clone, Copy, Debug, PartialEq, Eq)]
 pub enum SchemaFault {
     /// There are more than 200 attributes.
     TooMany,
     /// An attribute's name isn't a name.
     NotAName,
-    /// A resource's body keeps an attribute's name for itself, such as `count`.
+    /// An attribute's name is reserved in a resource's body, such as `count`.
     Reserved,
-    /// Two attributes have one name.
+    /// Two attributes have the same name.
     Repeated,
     /// Memory ran out.
     OutOfMemory,
@@ -115,9 +115,13 @@ impl Model for Schema {
 }
 
 impl Schema {
-    /// The schema of some attributes, in any order. Refused, in this order: more than 200 attributes, a
-    /// name that isn't a name, a name that a resource's body keeps for itself, a repeated name; and want
-    /// of memory.
+    /// Builds the schema of some attributes, given in any order.
+    ///
+    /// # Errors
+    ///
+    /// Fails with the first of these that applies: `TooMany` if there are more than 200 attributes, `NotAName` if a
+    /// name isn't a name, `Reserved` if a resource's body reserves a name, `Repeated` if a name is repeated. Fails
+    /// with `OutOfMemory` if memory runs out.
     pub fn new(
         alloc: Global,
         version: u32,
@@ -140,14 +144,14 @@ impl Schema {
         }
     }
 
-    /// The version that a state has to have been written with.
+    /// Returns the version that a state has to be written with.
     pub fn version(&self) -> u32
         ensures { result ≡ self.now.version }
     {
         self.version
     }
 
-    /// The attributes in byte order of their names.
+    /// Returns the attributes in byte order of their names.
     pub fn attributes(&self) -> &[Attribute]
         ensures attributes { map attribute_of result.now ≡ self.now.attributes }
         ensures kept { IsSchema self.now }
@@ -155,7 +159,7 @@ impl Schema {
         self.attributes.as_slice()
     }
 
-    /// The attribute of a name, if there is one.
+    /// Returns the attribute of a name, if there is one.
     pub fn attribute(&self, name: &str) -> Option<&Attribute>
         ensures { option_map (λ a. attribute_of a.now) result ≡ attribute_named name.now self.now }
     {
@@ -163,7 +167,7 @@ impl Schema {
     }
 }
 
-/// The first of some attributes that has this name.
+/// Returns the first of some attributes that has this name.
 fn named<'a>(attributes: &'a [Attribute], name: &str) -> Option<&'a Attribute>
     ensures { option_map (λ a. attribute_of a.now) result
         ≡ find (λ a. bytes_eq a.name name.now) (map attribute_of attributes.now) }
@@ -176,7 +180,7 @@ fn named<'a>(attributes: &'a [Attribute], name: &str) -> Option<&'a Attribute>
     None
 }
 
-/// What is wrong with the attributes of a schema, if anything is.
+/// Returns the first fault of a schema's attributes, if there is one.
 fn first_fault(attributes: &[Attribute]) -> Option<SchemaFault>
     ensures { result ≡ fault_of (map attribute_of attributes.now) }
 {
@@ -193,7 +197,7 @@ fn first_fault(attributes: &[Attribute]) -> Option<SchemaFault>
     }
 }
 
-/// Whether each attribute's name is a name.
+/// Checks that each attribute's name is a name.
 fn all_named(attributes: &[Attribute]) -> bool
     ensures { result ≡ list_all (λ a. is_name a.name) (map attribute_of attributes.now) }
 {
@@ -205,7 +209,7 @@ fn all_named(attributes: &[Attribute]) -> bool
     true
 }
 
-/// Whether an attribute has a reserved name.
+/// Returns whether an attribute has a reserved name.
 fn any_reserved(attributes: &[Attribute]) -> bool
     ensures { result ≡ list_any (λ a. is_reserved a.name) (map attribute_of attributes.now) }
 {
@@ -217,7 +221,7 @@ fn any_reserved(attributes: &[Attribute]) -> bool
     false
 }
 
-/// Whether a resource's body keeps a name for itself.
+/// Returns whether a name is reserved in a resource's body.
 fn is_reserved(name: &str) -> bool
     ensures { result ≡ is_reserved name.now }
 {
@@ -230,7 +234,7 @@ fn is_reserved(name: &str) -> bool
         || name == "lifecycle"
 }
 
-/// Whether no two attributes have one name.
+/// Checks that no two attributes have the same name.
 fn all_differ(attributes: &[Attribute]) -> bool
     ensures { result ≡ names_differ (map attribute_of attributes.now) }
 {
@@ -242,7 +246,7 @@ fn all_differ(attributes: &[Attribute]) -> bool
     true
 }
 
-/// Whether an attribute has this name.
+/// Returns whether an attribute has this name.
 fn is_among(attributes: &[Attribute], name: &str) -> bool
     ensures { result ≡ name_is_in (map attribute_of attributes.now) name.now }
 {
@@ -254,7 +258,7 @@ fn is_among(attributes: &[Attribute], name: &str) -> bool
     false
 }
 
-/// The attributes in byte order of their names.
+/// Sorts attributes in byte order of their names.
 fn ordered(alloc: Global, mut attributes: Vec<Attribute>) -> Result<Vec<Attribute>, SchemaFault>
     ensures { MatchResult result
         (λ placed. map attribute_of placed.items ≡ in_order (map attribute_of attributes.items))
@@ -267,7 +271,7 @@ fn ordered(alloc: Global, mut attributes: Vec<Attribute>) -> Result<Vec<Attribut
     Ok(done)
 }
 
-/// Puts an attribute in its place among attributes in byte order.
+/// Inserts an attribute in its place among attributes in byte order.
 fn place(attributes: &mut Vec<Attribute>, attribute: Attribute) -> Result<(), SchemaFault>
     ensures { MatchResult result
         (λ _. map attribute_of attributes.new.items ≡ placed (map attribute_of attributes.old.items) (attribute_of attribute))
@@ -278,7 +282,7 @@ fn place(attributes: &mut Vec<Attribute>, attribute: Attribute) -> Result<(), Sc
     Ok(())
 }
 
-/// How many attributes stand before a name.
+/// Returns the number of attributes before a name.
 fn place_of(attributes: &[Attribute], name: &str) -> usize
     ensures { result ≡ place_in (map attribute_of attributes.now) name.now }
 {

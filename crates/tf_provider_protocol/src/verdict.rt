@@ -12,26 +12,26 @@ use crate::schema::{Attribute, Kind, Mode, Schema};
 use std::collections::BTreeMap;
 use tf_value_data::{Value, may_be_stored, refines};
 
-/// Whether a reply keeps what was promised.
+/// The judgment of a reply.
 #[derive(Clone, Copy, Debug, PartialEq, Eq)]
 pub enum Verdict {
-    /// The request was met as it was asked.
+    /// The reply meets the request.
     Good,
-    /// The provider says that the request failed.
+    /// The provider reports that the request failed.
     Failed,
-    /// The object that is there contradicts the one that was asked for, first at this place in the
-    /// schema's byte order of names.
+    /// The reply's object contradicts the requested one. The first attribute that does has this place in the schema's
+    /// byte order of names.
     Contradicted(usize),
     /// The reply doesn't answer the request, or its object doesn't follow the schema.
     Malformed,
-    /// There was no memory, and nothing was done.
+    /// Memory ran out, and nothing was done.
     Excused,
 }
 
-/// The verdict on a reply. Want of memory excuses, and a failure is a failure. A destroy is good where the
-/// object is gone, and malformed where there is an object. A create or an update is malformed where there
-/// is none or where the object isn't well formed, contradicted at the first attribute, in byte order, whose
-/// value in the request's object doesn't refine to the reply's, and else good. Takes no memory.
+/// Returns the verdict on a reply. Out of memory is excused, and a failure is failed. A destroy is good if the object
+/// is gone, and malformed if there is an object. A create or an update is malformed if there is no object or if the
+/// object isn't well formed. Otherwise it is contradicted at the first attribute, in byte order, whose value in the
+/// request's object doesn't refine to the reply's, and good if there is no such attribute. Takes no memory.
 pub fn judge(request: &Request, reply: &Reply, schema: &Schema) -> Verdict
     requires { IsTrue (asks_fully (asked request.now) schema.now) }
     ensures { result ≡ verdict_on (asked request.now) (answered reply.now) schema.now }
@@ -48,8 +48,8 @@ pub fn judge(request: &Request, reply: &Reply, schema: &Schema) -> Verdict
     }
 }
 
-/// Whether a request asks for what its op takes: a destroy asks for no object, and the object of a create or
-/// an update is a map with exactly the schema's attributes.
+/// Checks that a request has what its operation needs. A destroy needs no object, and the object of a create or an
+/// update is a map with exactly the schema's attributes.
 pub fn asks_fully(request: &Request, schema: &Schema) -> bool
     ensures { result ≡ asks_fully (asked request.now) schema.now }
 {
@@ -59,7 +59,7 @@ pub fn asks_fully(request: &Request, schema: &Schema) -> bool
     }
 }
 
-/// The verdict on an object that answers a create or an update.
+/// Returns the verdict on an object that answers a create or an update.
 fn judge_object(wanted: &Option<Value>, there: &Value, schema: &Schema) -> Verdict
     ensures { result ≡ verdict_on_object schema.now (option_map tree_of wanted.now) (tree_of there.now) }
 {
@@ -75,16 +75,16 @@ fn judge_object(wanted: &Option<Value>, there: &Value, schema: &Schema) -> Verdi
     }
 }
 
-/// Whether a value is an object as the schema wants it: it has exactly the schema's attributes, each value
-/// may be stored (known, of weight at most 1,000,000 and depth at most 32, without a set in it), and is null (not
-/// for a required attribute) or of the attribute's kind, without conversion.
+/// Checks that a value is a well-formed object of a schema: it has exactly the schema's attributes, and each value
+/// may be stored (known, of weight at most 1,000,000 and depth at most 32, without a set in it). Each value is of the
+/// attribute's kind, without conversion, or null if the attribute isn't required.
 pub fn well_formed(value: &Value, schema: &Schema) -> bool
     ensures { result ≡ well_formed schema.now (tree_of value.now) }
 {
     has_attributes(value, schema) && all_fit(value, schema.attributes())
 }
 
-/// Whether a value is a map with exactly the schema's attributes.
+/// Returns whether a value is a map with exactly the schema's attributes.
 pub fn has_attributes(value: &Value, schema: &Schema) -> bool
     ensures { result ≡ has_attributes schema.now (tree_of value.now) }
 {
@@ -94,7 +94,7 @@ pub fn has_attributes(value: &Value, schema: &Schema) -> bool
     }
 }
 
-/// Whether the keys of a map are the names of some attributes, in one order.
+/// Checks that the keys of a map are the names of some attributes, in the same order.
 fn keys_are(entries: &BTreeMap<String, Value>, attributes: &[Attribute]) -> bool
     ensures { result ≡ same_names (keys_of (entries_view entries.now.entries))
         (map (λ a. a.name) (map attribute_of attributes.now)) }
@@ -110,7 +110,7 @@ fn keys_are(entries: &BTreeMap<String, Value>, attributes: &[Attribute]) -> bool
     true
 }
 
-/// Whether the value of each attribute is there and fits.
+/// Checks that a value for each attribute exists and fits.
 fn all_fit(value: &Value, attributes: &[Attribute]) -> bool
     ensures { result ≡ list_all (fits_in (tree_of value.now)) (map attribute_of attributes.now) }
 {
@@ -122,7 +122,7 @@ fn all_fit(value: &Value, attributes: &[Attribute]) -> bool
     true
 }
 
-/// Whether a map has a value for the attribute that fits it.
+/// Returns whether a map has a value for the attribute that fits it.
 fn fits_in(value: &Value, attribute: &Attribute) -> bool
     ensures { result ≡ fits_in (tree_of value.now) (attribute_of attribute.now) }
 {
@@ -132,14 +132,14 @@ fn fits_in(value: &Value, attribute: &Attribute) -> bool
     }
 }
 
-/// Whether a value fits an attribute.
+/// Returns whether a value may be stored and is allowed for an attribute.
 fn fits(value: &Value, attribute: &Attribute) -> bool
     ensures { result ≡ fits (attribute_of attribute.now) (tree_of value.now) }
 {
     may_be_stored(value) && is_allowed(value, attribute)
 }
 
-/// Whether a value is null where it may be, or of the attribute's kind.
+/// Returns whether a value is of the attribute's kind, or null if the attribute isn't required.
 pub fn is_allowed(value: &Value, attribute: &Attribute) -> bool
     ensures { result ≡ is_allowed (attribute_of attribute.now) (tree_of value.now) }
 {
@@ -154,7 +154,7 @@ pub fn is_allowed(value: &Value, attribute: &Attribute) -> bool
     }
 }
 
-/// The place of the first attribute whose wanted value doesn't refine to the value that is there.
+/// Returns the place of the first attribute whose requested value doesn't refine to the actual one.
 fn first_contradiction(wanted: &Value, there: &Value, attributes: &[Attribute]) -> Option<usize>
     ensures { result ≡ position_from (contradicts_at (tree_of wanted.now) (tree_of there.now)) 0 (map attribute_of attributes.now) }
 {
@@ -166,7 +166,7 @@ fn first_contradiction(wanted: &Value, there: &Value, attributes: &[Attribute]) 
     None
 }
 
-/// Whether the wanted value of an attribute doesn't refine to the value that is there.
+/// Returns whether an attribute's requested value doesn't refine to the actual one.
 fn contradicts(wanted: &Value, there: &Value, attribute: &Attribute) -> bool
     ensures { result ≡ contradicts_at (tree_of wanted.now) (tree_of there.now) (attribute_of attribute.now) }
 {

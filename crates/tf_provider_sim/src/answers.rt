@@ -1,4 +1,4 @@
-//! What is answered to a request.
+//! The answers to requests.
 
 ghost use Rattle.std.specs.Option.{option_map_or};
 ghost use Rattle.std.specs.Prelude.{◌≡◌, ◌++◌, IfOk, false, option_map, string_bytes};
@@ -10,7 +10,7 @@ use std::alloc::{AllocError, Global};
 use tf_provider_protocol::{Op, Reply, Request};
 use tf_value_data::{Value, copy};
 
-/// The answer to a request, by its type.
+/// Answers a request, by its type.
 pub fn answer(alloc: Global, request: &Request) -> Result<Reply, AllocError>
     ensures { IfOk result (λ reply. answered reply ≡ Some (sim_answer (asked request.now))) }
 {
@@ -21,7 +21,7 @@ pub fn answer(alloc: Global, request: &Request) -> Result<Reply, AllocError>
     }
 }
 
-/// The answer to a request on a net.
+/// Answers a request for a net.
 fn answer_net(alloc: Global, request: &Request) -> Result<Reply, AllocError>
     ensures { IfOk result (λ reply. answered reply ≡ Some (net_answer (asked request.now))) }
 {
@@ -37,7 +37,7 @@ fn answer_net(alloc: Global, request: &Request) -> Result<Reply, AllocError>
     }
 }
 
-/// The answer to the create or update of a net.
+/// Answers the create or update of a net.
 fn make_net(alloc: Global, op: Op, object: &Value) -> Result<Reply, AllocError>
     ensures { IfOk result (λ reply. answered reply ≡ Some (net_made op (tree_of object.now))) }
 {
@@ -52,7 +52,7 @@ fn make_net(alloc: Global, op: Op, object: &Value) -> Result<Reply, AllocError>
     }
 }
 
-/// The answer to a request on a host.
+/// Answers a request for a host.
 fn answer_host(alloc: Global, request: &Request) -> Result<Reply, AllocError>
     ensures { IfOk result (λ reply. answered reply ≡ Some (host_answer (asked request.now))) }
 {
@@ -65,7 +65,7 @@ fn answer_host(alloc: Global, request: &Request) -> Result<Reply, AllocError>
     }
 }
 
-/// The answer to the create or update of a host.
+/// Answers the create or update of a host.
 fn make_host(alloc: Global, object: &Value) -> Result<Reply, AllocError>
     ensures { IfOk result (λ reply. answered reply ≡ Some (host_made (tree_of object.now))) }
 {
@@ -79,7 +79,7 @@ fn make_host(alloc: Global, object: &Value) -> Result<Reply, AllocError>
     }
 }
 
-/// A failure that leaves no object.
+/// Builds a failure that leaves no object.
 fn failure(alloc: Global, message: &str) -> Result<Reply, AllocError>
     ensures { IfOk result (λ reply. answered reply ≡ Some (failed message.now None)) }
 {
@@ -89,7 +89,7 @@ fn failure(alloc: Global, message: &str) -> Result<Reply, AllocError>
     })
 }
 
-/// The text at a key, if a text stands there.
+/// Returns the text at a key, if the value there is a text.
 fn text_at<'a>(value: &'a Value, key: &str) -> Option<&'a str>
     ensures { option_map (λ t. t.now) result ≡ text_in (part_at key.now (tree_of value.now)) }
 {
@@ -99,7 +99,7 @@ fn text_at<'a>(value: &'a Value, key: &str) -> Option<&'a str>
     }
 }
 
-/// Whether a certain text stands at a key.
+/// Returns whether the value at a key is a certain text.
 fn has_text(value: &Value, key: &str, text: &str) -> bool
     ensures { result ≡ has_text key.now text.now (tree_of value.now) }
 {
@@ -109,7 +109,7 @@ fn has_text(value: &Value, key: &str, text: &str) -> bool
     }
 }
 
-/// Whether a value is a whole number above 100.
+/// Returns whether a value is a whole number above 100.
 fn is_large(value: Option<&Value>) -> bool
     ensures { result ≡ is_large (option_map (λ v. tree_of v.now) value.entry) }
 {
@@ -119,7 +119,7 @@ fn is_large(value: Option<&Value>) -> bool
     }
 }
 
-/// One text after another.
+/// Joins two texts.
 fn joined(alloc: Global, first: &str, second: &str) -> Result<String, AllocError>
     ensures { IfOk result (λ text. string_bytes text ≡ first.now ++ second.now) }
 {
@@ -129,7 +129,7 @@ fn joined(alloc: Global, first: &str, second: &str) -> Result<String, AllocError
     Ok(text)
 }
 
-/// A net's object, with the tag `truth` in place of `lie`.
+/// Returns a net's object, with the tag `truth` in place of `lie`.
 fn truthful(alloc: Global, object: Value) -> Result<Value, AllocError>
     ensures { IfOk result (λ v. tree_of v ≡ with_truth (tree_of object)) }
 {
@@ -141,7 +141,7 @@ fn truthful(alloc: Global, object: Value) -> Result<Value, AllocError>
     }
 }
 
-/// A map with a text at a key; any other value stays.
+/// Sets a text at a key of a map; returns any other value unchanged.
 fn with_text(alloc: Global, value: Value, key: &str, text: String) -> Result<Value, AllocError>
     ensures { IfOk result (λ v. tree_of v ≡ with_text key.now (string_bytes text) (tree_of value)) }
 {

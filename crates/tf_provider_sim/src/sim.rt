@@ -19,7 +19,7 @@ pub struct Sim {
 }
 
 impl Sim {
-    /// The provider with its two schemas. Refused only where there is no memory.
+    /// Builds the provider with its two schemas. Fails only if memory runs out.
     pub fn new(alloc: Global) -> Result<Sim, AllocError>
         ensures { IfOk result (λ sim. ⟦<Sim as Provider>⟧.meaning sim ≡ sim_meaning) }
     {
@@ -52,7 +52,7 @@ impl Provider for Sim {
     }
 }
 
-/// The schema of `sim_net`.
+/// Builds the schema of `sim_net`.
 fn net_schema(alloc: Global) -> Result<Schema, AllocError>
     ensures { IfOk result (λ schema. schema ≡ net_schema) }
 {
@@ -63,7 +63,7 @@ fn net_schema(alloc: Global) -> Result<Schema, AllocError>
     first_version(alloc, attributes)
 }
 
-/// The schema of `sim_host`.
+/// Builds the schema of `sim_host`.
 fn host_schema(alloc: Global) -> Result<Schema, AllocError>
     ensures { IfOk result (λ schema. schema ≡ host_schema) }
 {
@@ -75,7 +75,7 @@ fn host_schema(alloc: Global) -> Result<Schema, AllocError>
     first_version(alloc, attributes)
 }
 
-/// The schema of version 0 with these attributes, which have no fault.
+/// Builds the schema of version 0 with these attributes, which have no fault.
 fn first_version(alloc: Global, attributes: Vec<Attribute>) -> Result<Schema, AllocError>
     requires { fault_of (map attribute_of attributes.items) ≡ None }
     ensures { IfOk result (λ schema. schema ≡ record { version = 0; attributes = in_order (map attribute_of attributes.items) }) }
@@ -87,7 +87,7 @@ fn first_version(alloc: Global, attributes: Vec<Attribute>) -> Result<Schema, Al
     }
 }
 
-/// An attribute.
+/// Builds an attribute.
 fn attribute(
     alloc: Global,
     name: &str,

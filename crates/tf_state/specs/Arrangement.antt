@@ -1,4 +1,4 @@
--- In which order records and resources stand, and which resources are part of a state.
+-- The order of records and resources, and which resources are part of a state.
 use Rattle.std.specs.Prelude.{Bool, true, false, List, [], ◌∷◌, filter}
 use Rattle.std.specs.declared.cmp.Ordering.{Ordering}
 use Rattle.tf_config_address.specs.ResourceAddr.{addr_cmp}
@@ -6,7 +6,7 @@ use Rattle.tf_config_address.specs.ObjectId.{object_id_cmp}
 use Rattle.tf_state_data.specs.Record.{RecordView}
 use Rattle.tf_state_data.specs.Resource.{ResourceView}
 
--- records stand by their ids, resources by their addresses
+-- records are ordered by their ids, resources by their addresses
 abbrev pub record_cmp : RecordView → RecordView → Ordering
 record_cmp a b = object_id_cmp a.id b.id
 

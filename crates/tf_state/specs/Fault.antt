@@ -1,4 +1,4 @@
--- What is shown of why a text isn't read.
+-- The text of each fault.
 use Rattle.std.specs.Prelude.{ℕ, List, codes}
 use Rattle.tf_state.specs.declared.fault.StateFault.{StateFault}
 use Rattle.tf_state.specs.declared.fault.StateFault.TheVariants.{BadState, Limit, OutOfMemory}

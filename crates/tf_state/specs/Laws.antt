@@ -1,4 +1,4 @@
--- What holds of states and their texts, whatever they are.
+-- Laws of all states and their texts.
 use Rattle.std.specs.Prelude.{◌≡◌, ℕ, ◌^◌, ◌<◌, List, IsUtf8}
 use Rattle.tf_config_address.specs.ResourceAddr.{ResourceAddrView}
 use Rattle.tf_config_address.specs.ObjectId.{ObjectIdView}
@@ -19,11 +19,11 @@ TextIsOfOne = (bytes : List ℕ) (s t : StateView) → Reads bytes s → Reads b
 abbrev pub TextReadsAsState : Type 0
 TextReadsAsState = (s : StateView) → IsValid s → IsUtf8 (state_text s) → Reads (state_text s) s
 
--- Two valid states with one text are one.
+-- Two valid states with the same text are the same.
 abbrev pub StateOfTextIsOne : Type 0
 StateOfTextIsOne = (s t : StateView) → IsValid s → IsValid t → state_text s ≡ state_text t → s ≡ t
 
--- What is read is valid.
+-- A state that a text reads as is valid.
 abbrev pub ReadIsValid : Type 0
 ReadIsValid = (bytes : List ℕ) (s : StateView) → Reads bytes s → IsValid s
 
@@ -31,7 +31,7 @@ ReadIsValid = (bytes : List ℕ) (s : StateView) → Reads bytes s → IsValid s
 abbrev pub PutKeepsState : Type 0
 PutKeepsState = (new : ResourceView) (s : StateView) → IsPresent new → IsValid s → IsValid (with_resource new s)
 
--- A valid resource with a record put in, of its object, is valid, and has a record.
+-- A valid resource with a valid record put in is valid, and has a record.
 abbrev pub PutKeepsResource : Type 0
 PutKeepsResource = (new : RecordView) (r : ResourceView) → IsRecord new → IsResource r → IsPresent (with_record new r)
 

@@ -10,7 +10,7 @@ use Rattle.tf_state.specs.declared.body.Body.{Body}
 use Rattle.tf_state.specs.declared.body.Held.{Held}
 use Rattle.tf_config_address.specs.declared.object_id.ObjectId.{ObjectId}
 
--- the record of an object with a body
+-- a record made of an id and a body
 abbrev pub record_made : ObjectId → Body → RecordView
 record_made p b =
     record {
@@ -22,14 +22,14 @@ record_made p b =
       create_before_destroy = b.create_before_destroy;
     }
 
--- the records under their ids
+-- the records made of their ids and bodies
 abbrev pub records_made : List (ObjectId × Body) → List RecordView
 records_made es = map (λ e. record_made e.0 e.1) es
 
--- the resource of an address with a provider and records
+-- a resource made of an address, a provider and records
 abbrev pub resource_made : ResourceAddr → Held → ResourceView
 resource_made l h = record { addr = addr_of l; provider = string_bytes h.provider; records = map record_of h.records.items }
 
--- the resources under their addresses
+-- the resources made of their addresses and contents
 abbrev pub resources_made : List (ResourceAddr × Held) → List ResourceView
 resources_made es = map (λ e. resource_made e.0 e.1) es

@@ -1,6 +1,6 @@
--- The table of the format as functions: each answers what a part is read as, and none where the format refuses it. They
--- say what the table says (`Table`), and what the functions that read are shown to answer. Private to this crate: nothing above
--- it speaks of them.
+-- The table of the format as functions: each returns what a part is read as, or `None` if the format refuses it. They
+-- say the same as the table (`Table`), and the functions that read are proved to return their results. Private to
+-- this crate: no other crate refers to them.
 use Rattle.std.specs.Prelude.{◌≡◌, ℕ, ◌^◌, Bool, true, false, ◌&&◌, ◌==◌, nat_lt, nat_le, if◌then◌else◌, List, [], ◌∷◌, Option, Some, None, option_map, option_and_then, codes, IsUtf8}
 use Rattle.std.specs.Cmp.Lexicographic.{slice_cmp}
 use Rattle.std.specs.Ordering.{nat_cmp, match_ordering}
@@ -26,12 +26,12 @@ use Rattle.tf_state.specs.declared.shape.Shape.TheVariants as shapes
 
 -- ---- lists in order
 
--- the list with one more, in its place; none where one of the same place is there
+-- the list with one more element, in order; `None` if an equal one is in it already
 abbrev pub put_new : {A : Type 0} → (A → A → Ordering) → A → List A → Option (List A)
 put_new cmp a [] = Some (a ∷ [])
 put_new cmp a (b ∷ bs) = match_ordering (cmp a b) (Some (a ∷ b ∷ bs)) None (option_map (λ cs. b ∷ cs) (put_new cmp a bs))
 
--- what items are read as, added to what was found, none twice; none where an item is no such thing
+-- the elements that items are read as, added to those found, without duplicates; `None` if an item can't be read
 abbrev pub gather : {A : Type 0} → (Data → Option A) → (A → A → Ordering) → Items → List A → Option (List A)
 gather read_one cmp no_items found = Some found
 gather read_one cmp (item d ds) found = option_and_then (λ x. option_and_then (gather read_one cmp ds) (put_new cmp x found)) (read_one d)
@@ -58,7 +58,7 @@ values_in read_one (member k d ms) found = option_and_then (λ t. values_in read
 
 -- ---- properties of a record
 
--- a number below a bound; an absent one is 0
+-- a number below a bound; 0 if it is absent
 abbrev pub below_or_zero : ℕ → Option Data → Option ℕ
 below_or_zero bound None = Some 0
 below_or_zero bound (Some (json_number (unsigned n))) = if nat_lt n bound then Some n else None
@@ -99,7 +99,7 @@ abbrev pub address_in : Data → Option (List ℕ)
 address_in (string s) = if is_address s then Some s else None
 address_in _ = None
 
--- the addresses that items are, added to those that were found
+-- the addresses in the items, added to those found
 abbrev pub addresses_in : Items → List (List ℕ) → Option (List (List ℕ))
 addresses_in no_items found = Some found
 addresses_in (item d ds) found = option_and_then (λ s. addresses_in ds (put_text s found)) (address_in d)
@@ -123,11 +123,11 @@ abbrev pub id_in : Data → Option ObjectIdView
 id_in d =
     option_and_then (λ k. option_map (λ p. record { key = k; deposed = p }) (deposed_in (get (codes "deposed") d))) (key_in (get (codes "index_key") d))
 
--- a record's object holds what a record may hold, and nothing sensitive
+-- a record's object has only properties of a record, and nothing sensitive
 abbrev pub is_record : Data → Bool
 is_record d = is_shaped shapes.Record d && is_unsensitive (get (codes "sensitive_attributes") d)
 
--- a record of an object
+-- a record with a given id
 abbrev pub record_at : ObjectIdView → Data → Option RecordView
 record_at id d =
     option_and_then
@@ -139,7 +139,7 @@ record_at id d =
 abbrev pub record_in : Data → Option RecordView
 record_in d = if is_record d then option_and_then (λ id. record_at id d) (id_in d) else None
 
--- the records that items are, added to those that were found, none twice
+-- the records in the items, added to those found, without duplicates
 abbrev pub records_in : Items → List RecordView → Option (List RecordView)
 records_in = gather record_in record_cmp
 
@@ -175,7 +175,7 @@ resource_in d =
     (text_in (get (codes "provider") d))) (name_in (get (codes "name") d))) (name_in (get (codes "type") d))
     else None
 
--- the resources that items are, added to those that were found, none twice
+-- the resources in the items, added to those found, without duplicates
 abbrev pub resources_in : Items → List ResourceView → Option (List ResourceView)
 resources_in = gather resource_in resource_cmp
 
@@ -219,13 +219,13 @@ abbrev pub below : ℕ → Option Data → Option ℕ
 below bound (Some (json_number (unsigned n))) = if nat_lt n bound then Some n else None
 below bound _ = None
 
--- a text; an absent one is the default
+-- a text; the default if it is absent
 abbrev pub text_or : List ℕ → Option Data → Option (List ℕ)
 text_or default None = Some default
 text_or default (Some (string s)) = Some s
 text_or default (Some _) = None
 
--- a state's object holds what a state may hold, in the one version of the format, and no results of checks
+-- a state's object has only properties of a state, the one version of the format, and no results of checks
 abbrev pub is_state : Data → Bool
 is_state d = is_shaped shapes.State d && (is_version (get (codes "version") d) && is_unchecked (get (codes "check_results") d))
 
@@ -241,13 +241,13 @@ state_in d =
 
 -- ---- refusals
 
--- A part is refused where it is read as nothing. Memory may be wanting for any part.
+-- A part is refused if it is read as nothing. Memory may run out for any part.
 abbrev pub IsRefused : {A : Type 0} → Option A → StateFault → Type 0
 IsRefused o BadState = o ≡ None
 IsRefused o Limit = ⊥
 IsRefused o OutOfMemory = Unit {0}
 
--- Why bytes are no JSON tree: they aren't UTF-8, or no JSON; or there was no memory.
+-- Why bytes are no JSON tree: they aren't UTF-8, or no JSON; or memory ran out.
 abbrev pub IsNoJson : List ℕ → StateFault → Type 0
 IsNoJson bytes BadState = (d : Data) → ¬ (IsUtf8 bytes × (read bytes ≡ Some d))
 IsNoJson bytes Limit = ⊥

@@ -1,5 +1,5 @@
--- The table of the format: what has to stand at each property of a tree that says a state, a resource or a record, and
--- which texts say a state.
+-- The table of the format: what each property must be in a tree that says a state, a resource or a record, and which
+-- texts say a state.
 use Rattle.std.specs.Prelude.{◌≡◌, ◌↔◌, ℕ, ◌^◌, ◌<◌, ◌≤◌, ◌⊎◌, IsUtf8, length, Bool, true, false, if◌then◌else◌, List, [], ◌∷◌, Option, Some, None, codes, ⊤}
 use Rattle.std.specs.Cmp.Lexicographic.{slice_cmp}
 use Rattle.std.specs.List.{Contains}
@@ -28,17 +28,17 @@ use Rattle.tf_state.specs.declared.shape.Shape.TheVariants as shapes
 
 -- ---- lists and tables
 
--- each item of an array says what stands at its place in a list
+-- each item of an array says the element at the same index of a list
 abbrev pub EachSays : {A : Type 0} → (Data → A → Type 0) → Items → List A → Type 0
 EachSays Says no_items [] = ⊤
 EachSays Says (item d ds) (x ∷ xs) = Says d x × EachSays Says ds xs
 EachSays Says _ _ = ⊥
 
--- the second list is the first in ascending order, and no two in it are alike
+-- the second list has the elements of the first in ascending order, without duplicates
 abbrev pub IsArranged : {A : Type 0} → (A → A → Ordering) → List A → List A → Type 0
 IsArranged cmp xs ys = IsPermutation xs ys × IsStrictlySortedBy cmp ys
 
--- what one list holds the other holds too
+-- two lists have the same elements
 abbrev pub HoldTheSame : {A : Type 0} → List A → List A → Type 0
 HoldTheSame {A} xs ys = (x : A) → Contains xs x ↔ Contains ys x
 
@@ -47,7 +47,7 @@ abbrev pub names_of : Entries → List (List ℕ)
 names_of no_entries = []
 names_of (entry k t es) = k ∷ names_of es
 
--- what the last member of a name holds
+-- the value of the last member with a name
 abbrev pub last_member : List ℕ → Members → Option Data
 last_member k no_members = None
 last_member k (member l d ms) = option_or (last_member k ms) (if bytes_eq k l then Some d else None)
@@ -57,25 +57,25 @@ abbrev pub EachMemberSays : (Data → Tree → Type 0) → Members → Type 0
 EachMemberSays Says no_members = ⊤
 EachMemberSays Says (member k d ms) = ((t : Tree) × Says d t) × EachMemberSays Says ms
 
--- where there is nothing there is no value, and what there is says the value
+-- an absent part says no value, and a part that is there says the value
 abbrev pub SaysPart : (Data → Tree → Type 0) → Option Data → Option Tree → Type 0
 SaysPart Says None None = ⊤
 SaysPart Says (Some d) (Some t) = Says d t
 SaysPart Says _ _ = ⊥
 
 -- An object says a table: its members' names, strictly in byte order, each with the value that its member says. A
--- tree that a text is read as has no name twice; of other trees each member has to say a value too, and the last one
--- of a name counts.
+-- tree that a text is read as has no name twice. In other trees the last member of a name counts, and each member has
+-- to say a value.
 pub record SaysTable (Says : Data → Tree → Type 0) (ms : Members) (es : Entries) : Type 0 where
   pub each : EachMemberSays Says ms
   pub order : IsStrictlySortedBy (slice_cmp nat_cmp) (names_of es)
   pub values : (k : List ℕ) → SaysPart Says (last_member k ms) (value_at k es)
 
--- a value without sets, within the limits of weight and depth, of which the tree is the JSON form
+-- a value without sets, within the limits of weight and depth, whose JSON form the tree is
 abbrev pub SaysValue : Data → Tree → Type 0
 SaysValue d t = IsJson t d × IsWithinLimits t × (has_no_set t ≡ true)
 
--- ---- what may stand at a property
+-- ---- the values of properties
 
 abbrev pub SaysText : Option Data → List ℕ → Type 0
 SaysText o s = o ≡ Some (string s)
@@ -87,13 +87,13 @@ SaysNumber bound o n = (o ≡ Some (json_number (unsigned n))) × (n < bound)
 abbrev pub SaysName : Option Data → List ℕ → Type 0
 SaysName o s = SaysText o s × (is_name s ≡ true)
 
--- a text; the default where it is absent
+-- a text; the default if it is absent
 abbrev pub SaysTextOr : List ℕ → Option Data → List ℕ → Type 0
 SaysTextOr default None s = s ≡ default
 SaysTextOr default (Some (string t)) s = s ≡ t
 SaysTextOr default _ s = ⊥
 
--- a number below a bound; 0 where it is absent
+-- a number below a bound; 0 if it is absent
 abbrev pub SaysNumberOrZero : ℕ → Option Data → ℕ → Type 0
 SaysNumberOrZero bound None n = n ≡ 0
 SaysNumberOrZero bound (Some (json_number (unsigned m))) n = (n ≡ m) × (m < bound)
@@ -133,7 +133,7 @@ SaysFlag _ b = ⊥
 abbrev pub SaysAddress : Data → List ℕ → Type 0
 SaysAddress d s = (d ≡ string s) × (is_address s ≡ true)
 
--- nothing, or an array of addresses: these and no others, strictly in byte order
+-- nothing, or an array of exactly these addresses; the list is strictly in byte order
 abbrev pub SaysDependencies : Option Data → List (List ℕ) → Type 0
 SaysDependencies None ts = ts ≡ []
 SaysDependencies (Some (array ds)) ts = (said : List (List ℕ)) × EachSays SaysAddress ds said × HoldTheSame said ts × IsStrictlySortedBy (slice_cmp nat_cmp) ts
@@ -165,7 +165,7 @@ pub record SaysRecord (d : Data) (r : RecordView) : Type 0 where
   pub dependencies : SaysDependencies (get (codes "dependencies") d) r.dependencies
   pub create_before_destroy : SaysFlag (get (codes "create_before_destroy") d) r.create_before_destroy
 
--- an array of records, which stand by their ids, no two with one
+-- an array of records; the list is in the order of their ids, no two with the same one
 abbrev pub SaysInstances : Option Data → List RecordView → Type 0
 SaysInstances (Some (array ds)) rs = (said : List RecordView) × EachSays SaysRecord ds said × IsArranged record_cmp said rs
 SaysInstances _ rs = ⊥
@@ -179,13 +179,14 @@ pub record SaysResource (d : Data) (r : ResourceView) : Type 0 where
   pub provider : SaysText (get (codes "provider") d) r.provider
   pub instances : SaysInstances (get (codes "instances") d) r.records
 
--- nothing, or an array of resources, which stand by their addresses, no two at one; then those without records are left out
+-- nothing, or an array of resources; the list is in the order of their addresses, no two at the same one, and leaves
+-- out those without records
 abbrev pub SaysResources : Option Data → List ResourceView → Type 0
 SaysResources None rs = rs ≡ []
 SaysResources (Some (array ds)) rs = (said all : List ResourceView) × EachSays SaysResource ds said × IsArranged resource_cmp said all × (rs ≡ with_records all)
 SaysResources _ rs = ⊥
 
--- the object of an output, whose value counts and whose type may be anything
+-- the object of an output: its value counts, and its type may be anything
 pub record SaysOutput (d : Data) (t : Tree) : Type 0 where
   pub only : is_shaped shapes.Output d ≡ true
   pub value : SaysPart SaysValue (get (codes "value") d) (Some t)
@@ -209,7 +210,7 @@ pub record SaysState (d : Data) (s : StateView) : Type 0 where
 
 -- ---- texts
 
--- The bytes are the text of a state: they are UTF-8, and the JSON tree that they are says the state.
+-- The bytes are the text of a state: they are UTF-8, and their JSON tree says the state.
 abbrev pub Reads : List ℕ → StateView → Type 0
 Reads bytes s = (d : Data) × IsUtf8 bytes × (read bytes ≡ Some d) × SaysState d s
 
@@ -217,18 +218,18 @@ Reads bytes s = (d : Data) × IsUtf8 bytes × (read bytes ≡ Some d) × SaysSta
 abbrev pub max_resources : ℕ
 max_resources = 4000
 
--- the serial from which no other follows
+-- the serial after which there is no other
 abbrev pub last_serial : ℕ
 last_serial = 4294967295
 
--- A state can be planned from where it has few enough resources, and a serial that another follows.
+-- A state can be planned from if it has at most the greatest number of resources, and a serial that another follows.
 abbrev pub IsPlannable : StateView → Type 0
 IsPlannable s = (length s.resources ≤ max_resources) × (s.serial < last_serial)
 
 abbrev pub IsBeyond : StateView → Type 0
 IsBeyond s = (max_resources < length s.resources) ⊎ (last_serial ≤ s.serial)
 
--- Why a text isn't read: it is no state's; or it is that of a state that can't be planned from; or there was no memory.
+-- Why a text isn't read: it is no state's; or it is that of a state that can't be planned from; or memory ran out.
 abbrev pub IsUnread : List ℕ → StateFault → Type 0
 IsUnread bytes BadState = (s : StateView) → ¬ Reads bytes s
 IsUnread bytes Limit = (s : StateView) × Reads bytes s × IsBeyond s

@@ -12,33 +12,33 @@ use Rattle.tf_state_data.specs.State.{StateView}
 use Rattle.tf_state.specs.Arrangement.{with_records}
 use Rattle.tf_state.specs.Types.{type_data}
 
--- the members with a value at a key, where there is a value
+-- the members with a value at a key, if there is a value
 abbrev pub put_some : List ℕ → Option Data → Members → Members
 put_some key None ms = ms
 put_some key (Some d) ms = put key d ms
 
--- the key of an instance, where it has one
+-- the key of an instance, if it has one
 abbrev pub key_data : InstanceKeyView → Option Data
 key_data single = None
 key_data (number n) = Some (json_number (unsigned n))
 key_data (name s) = Some (string s)
 
--- the status of an object, where it is tainted
+-- the status of an object, if it is tainted
 abbrev pub status_data : Bool → Option Data
 status_data true = Some (string (codes "tainted"))
 status_data false = None
 
--- the flag, where it is set
+-- the flag, if it is set
 abbrev pub flag_data : Bool → Option Data
 flag_data true = Some (boolean true)
 flag_data false = None
 
--- the dependencies, where there are any
+-- the dependencies, if there are any
 abbrev pub dependencies_data : List (List ℕ) → Option Data
 dependencies_data [] = None
 dependencies_data (t ∷ ts) = Some (array (items_of (each string (t ∷ ts))))
 
--- an object with its attributes and their schema's version, and with what of the rest there is
+-- an object with its attributes, their schema's version, and each other part that has a value
 abbrev pub record_data : RecordView → Data
 record_data r =
     object (put (codes "attributes") (value_data r.attributes) (put (codes "schema_version") (json_number (unsigned r.schema_version)) (put_some (codes "create_before_destroy") (flag_data r.create_before_destroy)

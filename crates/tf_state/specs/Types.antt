@@ -1,9 +1,9 @@
--- The type that a state names beside an output's value, which is made of the value alone.
+-- The type that a state names next to an output's value. It is computed from the value alone.
 use Rattle.std.specs.Prelude.{ℕ, List, codes}
 use Rattle.serde_json.specs.Data.{Data, string, array, object, Items as JsonItems, no_items as no_json_items, item as json_item, Members, no_members, member}
 use Rattle.tf_value_data.specs.Tree.{Tree, null, boolean, whole, text, list, map, set, unknown, Items, no_items, item, Entries, no_entries, entry}
 
--- a word beside a tree
+-- a pair of a word and a tree
 abbrev pub pair_data : List ℕ → Data → Data
 pair_data word d = array (json_item (string word) (json_item d no_json_items))
 

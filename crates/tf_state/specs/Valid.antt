@@ -1,4 +1,4 @@
--- States that their texts give back.
+-- States that can be read back from their texts.
 use Rattle.std.specs.Prelude.{◌≡◌, ℕ, ◌^◌, ◌<◌, true, List, [], ◌∷◌, Option, Some, None, ⊤}
 use Rattle.std.specs.Cmp.Lexicographic.{slice_cmp}
 use Rattle.std.specs.List.{AllByRecursion}
@@ -44,11 +44,11 @@ pub record IsRecord (r : RecordView) : Type 0 where
   pub version : r.schema_version < 2 ^ 32
   pub dependencies : AreAddresses r.dependencies
 
--- records, in the order of their ids, no two with one
+-- records in the order of their ids, no two with the same one
 abbrev pub AreRecords : List RecordView → Type 0
 AreRecords rs = AllByRecursion IsRecord rs × AreById rs
 
--- a resource, which may be one without records
+-- a resource, which may have no records
 pub record IsResource (r : ResourceView) : Type 0 where
   pub type_name : is_name r.addr.type_name ≡ true
   pub name : is_name r.addr.name ≡ true
@@ -58,12 +58,12 @@ pub record IsResource (r : ResourceView) : Type 0 where
 abbrev pub IsPresent : ResourceView → Type 0
 IsPresent r = IsResource r × (is_some_record r.records ≡ true)
 
--- resources with records, in the order of their addresses, no two at one
+-- resources with records, in the order of their addresses, no two at the same one
 abbrev pub AreResources : List ResourceView → Type 0
 AreResources rs = AllByRecursion IsPresent rs × AreByAddress rs
 
--- A state is valid where its parts are such as a text can hold: names, keys and addresses of their forms, values
--- that may be saved, and records and resources in order, none twice, no resource without records.
+-- A state is valid if a text can hold its parts: names, keys and addresses of their forms, values that may be stored,
+-- and records and resources in order, without duplicates, each resource with a record.
 pub record IsValid (s : StateView) : Type 0 where
   pub serial : s.serial < 2 ^ 32
   pub outputs : IsTable s.outputs

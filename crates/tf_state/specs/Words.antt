@@ -17,12 +17,12 @@ properties_of shapes.Record =
     codes "attributes" ∷ codes "create_before_destroy" ∷ codes "dependencies" ∷ codes "deposed" ∷ codes "index_key" ∷ codes "schema_version"
     ∷ codes "sensitive_attributes" ∷ codes "status" ∷ []
 
--- each property is one of these
+-- each property is one of the given words
 abbrev pub has_only : List (List ℕ) → Members → Bool
 has_only words no_members = true
 has_only words (member k d ms) = list_any (bytes_eq k) words && has_only words ms
 
--- the tree is an object with properties of its shape alone
+-- the tree is an object that has only properties of its shape
 abbrev pub is_shaped : Shape → Data → Bool
 is_shaped shape (object ms) = has_only (properties_of shape) ms
 is_shaped shape null = false

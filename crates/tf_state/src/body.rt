@@ -6,7 +6,7 @@ ghost use Rattle.tf_state_data.specs.Record.{record_of};
 use std::collections::BTreeSet;
 use tf_state_data::{Object, Record};
 
-/// What a record says of an object, beside which one it is.
+/// The content of a record, without its id.
 #[derive(Drop)]
 pub(crate) struct Body {
     pub attributes: Object,
@@ -16,7 +16,7 @@ pub(crate) struct Body {
     pub create_before_destroy: bool,
 }
 
-/// What a resource holds, beside its address.
+/// The content of a resource, without its address.
 #[derive(Drop)]
 pub(crate) struct Held {
     pub provider: String,

@@ -9,11 +9,11 @@ use std::fmt;
 /// Why a text isn't read as a state.
 #[derive(Debug, Clone, Copy, PartialEq, Eq)]
 pub enum StateFault {
-    /// The text is no state's.
+    /// The text is not the text of a state.
     BadState,
-    /// The state has more than 4,000 resources, or a serial from which no other follows.
+    /// The state has more than 4,000 resources with records, or the last serial, 4294967295.
     Limit,
-    /// There was no memory.
+    /// Memory ran out.
     OutOfMemory,
 }
 

@@ -18,6 +18,6 @@ pub use laws::{
     new_states_are_valid, puts_and_removes_keep_states_valid, read_states_are_valid,
     texts_are_of_one, texts_read_back,
 };
-pub use reading::read;
+pub use reading::{is_plannable, read};
 pub use tf_state_data::{Object, Record, Resource, State, copy, provider_address};
 pub use writing::write;

@@ -1,4 +1,4 @@
-//! The state that a text is.
+//! Reading of a state from its text.
 
 ghost use Rattle.std.specs.Prelude.{◌≡◌, Some, IfErr, IfOk, OnOk, option_map, string_bytes, IsUtf8, codes};
 ghost use Rattle.std.specs.Bool.{OnFalse, OnTrue};
@@ -29,11 +29,12 @@ const MAX_RESOURCES: usize = 4_000;
 ///
 /// # Errors
 ///
-/// - `BadState` where the bytes are no state's text: they aren't UTF-8 or no JSON, or a property isn't listed,
-///   is missing or has a value that the format refuses, or a value in it isn't whole or is beyond the limits of
-///   `tf_value_data`, or two resources have one address, or two records of a resource one id.
-/// - `Limit` where they are, and the state has more than 4,000 resources with records, or the serial 4294967295.
-/// - `OutOfMemory` only where there is no memory.
+/// - `BadState` if the bytes are not the text of a state: they aren't UTF-8 or aren't JSON; or a property isn't
+///   listed, is missing or has a value that the format refuses; or a value isn't whole or is beyond the limits of
+///   `tf_value_data`; or two resources have the same address, or two records of a resource the same id.
+/// - `Limit` if they are the text of a state with more than 4,000 resources with records, or with the serial
+///   4294967295.
+/// - `OutOfMemory` only if memory runs out.
 #[tactic(auto, using(crate::proofs::Refusals::no_json, crate::proofs::Refusals::no_state, crate::proofs::Refusals::reads_by_table, crate::proofs::Refusals::beyond_limits))]
 pub fn read(alloc: Global, bytes: &[u8]) -> Result<State, StateFault>
     // The bytes are the text of the state.
@@ -42,7 +43,7 @@ pub fn read(alloc: Global, bytes: &[u8]) -> Result<State, StateFault>
     // No limit is passed.
     ensures small { IfOk result (λ state. IsPlannable (state_of state)) }
 
-    // Else they are no state's text, or that of a state beyond a limit, or there was no memory.
+    // The bytes are no state's text, or that of a state beyond a limit, or memory ran out.
     ensures err { IfErr result (λ e. IsUnread bytes.now e) }
 {
     let json = read_json(alloc, bytes)?;
@@ -53,7 +54,8 @@ pub fn read(alloc: Global, bytes: &[u8]) -> Result<State, StateFault>
     Ok(state)
 }
 
-fn is_plannable(state: &State) -> bool
+/// Returns whether a plan can start from a state: it has at most 4,000 resources, and a serial that another follows.
+pub fn is_plannable(state: &State) -> bool
     ensures within { OnTrue result (IsPlannable (state_of state.now)) }
     ensures beyond { OnFalse result (IsBeyond (state_of state.now)) }
 {

@@ -1,4 +1,4 @@
-//! Records, as they are read.
+//! Reading of records.
 
 ghost use Rattle.std.specs.Prelude.{◌≡◌, ◌++◌, [], Some, IfErr, IfOk, OnOk, map, option_map};
 ghost use Rattle.serde_json.specs.View.{view, items_view};
@@ -23,7 +23,7 @@ use std::collections::BTreeMap;
 use tf_config_address::ObjectId;
 use tf_state_data::Record;
 
-/// The records of a resource, in the order of their ids. Each part of the tree goes once it is read.
+/// Reads the records of a resource, in the order of their ids. Drops each part of the tree after reading it.
 pub(crate) fn read_instances(alloc: Global, json: Option<Json>) -> Result<Vec<Record>, StateFault>
     ensures ok { IfOk result (λ rs. instances_in (option_map view json) ≡ Some (map record_of rs.items)) }
     ensures ordered { IfOk result (λ rs. AreById (map record_of rs.items)) }

@@ -34,7 +34,7 @@ pub(crate) fn send_record<S: Serializer>(instance: &Record, out: &mut S) -> Resu
     out.end_map()
 }
 
-/// How many members a record is written with.
+/// Returns with how many members a record is written.
 fn member_count(instance: &Record) -> usize
     ensures { result ≡ member_count (record_of instance.now) }
 {

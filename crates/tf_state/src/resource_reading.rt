@@ -1,4 +1,4 @@
-//! Resources, as they are read.
+//! Reading of resources.
 
 ghost use Rattle.std.specs.Prelude.{◌≡◌, [], Some, IfErr, IfOk, OnOk, map, option_map};
 ghost use Rattle.serde_json.specs.View.{view, items_view};
@@ -20,8 +20,8 @@ use std::collections::BTreeMap;
 use tf_config_address::ResourceAddr;
 use tf_state_data::{Record, Resource};
 
-/// The resources of a state that have records, in the order of their addresses. Each part of the tree goes once it
-/// is read.
+/// Reads the resources of a state that have records, in the order of their addresses. Drops each part of the tree
+/// after reading it.
 pub(crate) fn read_resources(alloc: Global, json: Option<Json>) -> Result<Vec<Resource>, StateFault>
     ensures ok { IfOk result (λ rs. all_resources_in (option_map view json) ≡ Some (map resource_of rs.items)) }
     ensures ordered { IfOk result (λ rs. AreByAddress (map resource_of rs.items)) }
@@ -53,7 +53,7 @@ fn in_order(
     Ok(ordered)
 }
 
-/// Whether there is any record.
+/// Returns whether there is any record.
 pub(crate) fn has_records(records: &[Record]) -> bool
     ensures { result ≡ is_some_record (map record_of records.now) }
 {

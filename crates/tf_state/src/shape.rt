@@ -10,7 +10,7 @@ ghost use Rattle.tf_state.specs.Words.{has_only, is_address, is_deposed_key, is_
 use serde_json::{Map, Value as Json};
 use tf_config_address::is_name;
 
-/// What an object of a state's JSON is.
+/// The kind of an object in a state's JSON.
 #[derive(Clone, Copy)]
 pub(crate) enum Shape {
     /// The whole state.
@@ -23,7 +23,7 @@ pub(crate) enum Shape {
     Record,
 }
 
-/// Whether a tree is an object with properties of its shape alone.
+/// Returns whether a tree is an object that has only properties of the given shape.
 pub(crate) fn is_shaped(json: &Json, shape: Shape) -> bool
     ensures { result ≡ is_shaped shape (view json.now) }
 {
@@ -74,7 +74,7 @@ fn is_property(shape: Shape, name: &str) -> bool
     }
 }
 
-/// A member of an object, where it has one; the rest of the object goes.
+/// Returns a member of an object, if it has one, and drops the rest of the object.
 pub(crate) fn take_member(mut json: Json, key: &str) -> Option<Json>
     ensures { option_map view result ≡ get key.now (view json) }
 {
@@ -84,7 +84,7 @@ pub(crate) fn take_member(mut json: Json, key: &str) -> Option<Json>
     }
 }
 
-/// Whether a text is the key of a deposed object: eight lower-case hex digits.
+/// Returns whether a text is the key of a deposed object: eight lower-case hex digits.
 pub(crate) fn is_deposed_key(text: &str) -> bool
     ensures { result ≡ is_deposed_key text.now }
 {
@@ -103,7 +103,7 @@ fn is_hex(byte: u8) -> bool
     matches!(byte, b'0'..=b'9' | b'a'..=b'f')
 }
 
-/// Whether a text is the address `TYPE.NAME` of a resource.
+/// Returns whether a text is the address `TYPE.NAME` of a resource.
 pub(crate) fn is_address(text: &str) -> bool
     ensures { result ≡ is_address text.now }
 {

@@ -1,4 +1,4 @@
-//! The types that a state names beside the values of outputs.
+//! The types that a state names next to the values of outputs.
 
 ghost use Rattle.std.specs.Prelude.{◌≡◌, OnOk};
 ghost use Rattle.serde_json.specs.Data.{array, object};
@@ -10,7 +10,7 @@ use serde::Serializer;
 use std::collections::BTreeMap;
 use tf_value_data::Value;
 
-/// The type of a value, as a state names it.
+/// Sends the type of a value, as a state names it.
 #[cycle(types)]
 pub(crate) fn send_type<S: Serializer>(value: &Value, out: &mut S) -> Result<(), S::Error>
     ensures { OnOk result (SendsValue (type_data (tree_of value.now)) (S.written out.old) (S.written out.new)) }

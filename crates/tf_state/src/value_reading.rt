@@ -1,4 +1,4 @@
-//! Values and the properties that a record may have, as they are read.
+//! Reading of values and of the properties of a record.
 
 ghost use Rattle.std.specs.Prelude.{◌≡◌, ◌^◌, [], Some, IfErr, IfOk, map, option_map, string_bytes};
 ghost use Rattle.serde_json.specs.Data.{array};
@@ -17,7 +17,7 @@ use tf_state_data::Object;
 use tf_value_data::Value;
 use tf_value_json::{JsonFault, from_json};
 
-/// A value, which is known and within the limits.
+/// Reads a value, which is known and within the limits.
 #[tactic(auto, using(crate::proofs::ValueForms::value_read, crate::proofs::ValueForms::value_known, crate::proofs::ValueForms::value_refused))]
 pub(crate) fn read_value(alloc: Global, json: &Json) -> Result<Object, StateFault>
     ensures ok { IfOk result (λ o. value_in (view json.now) ≡ Some (tree_of o.value)) }
@@ -30,7 +30,7 @@ pub(crate) fn read_value(alloc: Global, json: &Json) -> Result<Object, StateFaul
     }
 }
 
-/// The attributes of an object.
+/// Reads the attributes of an object.
 #[tactic(auto, using(crate::proofs::KnownForms::attributes_known))]
 pub(crate) fn read_attributes(alloc: Global, json: Option<&Json>) -> Result<Object, StateFault>
     ensures ok { IfOk result (λ o. attributes_in (option_map (λ v. view v.now) json.entry) ≡ Some (tree_of o.value)) }
@@ -61,7 +61,7 @@ fn read_values(
     Ok(entries)
 }
 
-/// A number that is below 2^32; 0 where it is absent.
+/// Reads a number below 2^32; 0 if it is absent.
 pub(crate) fn read_version(json: Option<&Json>) -> Result<u32, StateFault>
     ensures ok { IfOk result (λ n. below_or_zero (2 ^ 32) (option_map (λ v. view v.now) json.entry) ≡ Some n) }
     ensures err { IfErr result (λ e. IsRefused (below_or_zero (2 ^ 32) (option_map (λ v. view v.now) json.entry)) e) }
@@ -72,7 +72,7 @@ pub(crate) fn read_version(json: Option<&Json>) -> Result<u32, StateFault>
     }
 }
 
-/// A number that is below 2^32.
+/// Reads a number below 2^32.
 pub(crate) fn read_serial(json: Option<&Json>) -> Result<u32, StateFault>
     ensures ok { IfOk result (λ n. below (2 ^ 32) (option_map (λ v. view v.now) json.entry) ≡ Some n) }
     ensures err { IfErr result (λ e. IsRefused (below (2 ^ 32) (option_map (λ v. view v.now) json.entry)) e) }
@@ -87,7 +87,7 @@ pub(crate) fn read_serial(json: Option<&Json>) -> Result<u32, StateFault>
     Err(StateFault::BadState)
 }
 
-/// The instance that a record is of.
+/// Reads the instance of a record.
 pub(crate) fn read_key(alloc: Global, json: Option<&Json>) -> Result<InstanceKey, StateFault>
     ensures ok { IfOk result (λ k. key_in (option_map (λ v. view v.now) json.entry) ≡ Some (instance_key_of k)) }
     ensures err { IfErr result (λ e. IsRefused (key_in (option_map (λ v. view v.now) json.entry)) e) }
@@ -103,7 +103,7 @@ pub(crate) fn read_key(alloc: Global, json: Option<&Json>) -> Result<InstanceKey
     }
 }
 
-/// The key of a deposed object.
+/// Reads the key of a deposed object.
 pub(crate) fn read_deposed(alloc: Global, json: Option<&Json>) -> Result<Option<String>, StateFault>
     ensures ok { IfOk result (λ d. deposed_in (option_map (λ v. view v.now) json.entry) ≡ Some (deposed_of d)) }
     ensures err { IfErr result (λ e. IsRefused (deposed_in (option_map (λ v. view v.now) json.entry)) e) }
@@ -115,7 +115,7 @@ pub(crate) fn read_deposed(alloc: Global, json: Option<&Json>) -> Result<Option<
     }
 }
 
-/// Which object of its resource a record is of.
+/// Reads the id of a record's object.
 pub(crate) fn read_id(alloc: Global, json: &Json) -> Result<ObjectId, StateFault>
     ensures ok { IfOk result (λ p. id_in (view json.now) ≡ Some (object_id_of p)) }
     ensures err { IfErr result (λ e. IsRefused (id_in (view json.now)) e) }
@@ -125,7 +125,7 @@ pub(crate) fn read_id(alloc: Global, json: &Json) -> Result<ObjectId, StateFault
     Ok(ObjectId { key, deposed })
 }
 
-/// Whether an object is tainted, as its status says.
+/// Reads from its status whether an object is tainted.
 pub(crate) fn read_tainted(json: Option<&Json>) -> Result<bool, StateFault>
     ensures ok { IfOk result (λ b. tainted_in (option_map (λ v. view v.now) json.entry) ≡ Some b) }
     ensures err { IfErr result (λ e. IsRefused (tainted_in (option_map (λ v. view v.now) json.entry)) e) }
@@ -137,7 +137,7 @@ pub(crate) fn read_tainted(json: Option<&Json>) -> Result<bool, StateFault>
     }
 }
 
-/// A truth value; false where it is absent.
+/// Reads a truth value; false if it is absent.
 pub(crate) fn read_flag(json: Option<&Json>) -> Result<bool, StateFault>
     ensures ok { IfOk result (λ b. flag_in (option_map (λ v. view v.now) json.entry) ≡ Some b) }
     ensures err { IfErr result (λ e. IsRefused (flag_in (option_map (λ v. view v.now) json.entry)) e) }
@@ -149,7 +149,7 @@ pub(crate) fn read_flag(json: Option<&Json>) -> Result<bool, StateFault>
     }
 }
 
-/// The addresses of the resources that an object depends on.
+/// Reads the addresses of the resources that an object depends on.
 pub(crate) fn read_dependencies(
     alloc: Global,
     json: Option<&Json>,
@@ -186,7 +186,7 @@ fn read_address(alloc: Global, json: &Json) -> Result<String, StateFault>
     }
 }
 
-/// Whether no attribute is sensitive.
+/// Returns whether no attribute is sensitive.
 pub(crate) fn is_unsensitive(json: Option<&Json>) -> bool
     ensures { result ≡ is_unsensitive (option_map (λ v. view v.now) json.entry) }
 {
@@ -207,7 +207,7 @@ fn are_none(items: &[Json]) -> bool
     }
 }
 
-/// A text.
+/// Reads a text.
 pub(crate) fn read_text(alloc: Global, json: Option<&Json>) -> Result<String, StateFault>
     ensures ok { IfOk result (λ s. text_in (option_map (λ v. view v.now) json.entry) ≡ Some (string_bytes s)) }
     ensures err { IfErr result (λ e. IsRefused (text_in (option_map (λ v. view v.now) json.entry)) e) }
@@ -218,7 +218,7 @@ pub(crate) fn read_text(alloc: Global, json: Option<&Json>) -> Result<String, St
     }
 }
 
-/// A text that is a name.
+/// Reads a text that is a name.
 pub(crate) fn read_name(alloc: Global, json: Option<&Json>) -> Result<String, StateFault>
     ensures ok { IfOk result (λ s. name_in (option_map (λ v. view v.now) json.entry) ≡ Some (string_bytes s)) }
     ensures err { IfErr result (λ e. IsRefused (name_in (option_map (λ v. view v.now) json.entry)) e) }

@@ -21,19 +21,19 @@ use std::alloc::{AllocError, Global};
 use tf_state_data::{Object, Record, Resource, State};
 use tf_value_json::AsJson;
 
-/// The one text of a state: Terraform's state file format, version 4, two spaces a level, keys in byte order,
-/// and one newline at the end. A resource without records isn't written. Refused only where there is no memory.
+/// Returns the one text of a state: Terraform's state file format, version 4, two spaces a level, keys in byte order,
+/// and one newline at the end. Leaves out resources without records. Fails only if memory runs out.
 pub fn write(alloc: Global, state: &State) -> Result<String, AllocError>
     ensures { IfOk result (λ text. string_bytes text ≡ state_text (state_of state.now)) }
 {
     match tf_value_json::text(alloc, &StateFile { state }) {
         Ok(text) => Ok(text),
-        // What is sent is well formed, so that only memory can be wanting.
+        // The events are well formed, so only memory can run out.
         Err(_) => Err(AllocError),
     }
 }
 
-/// A state as it stands in its file.
+/// A state, to be sent as the content of its file.
 #[derive(Drop)]
 struct StateFile<'a> {
     state: &'a State,
@@ -103,7 +103,7 @@ fn send_resources<S: Serializer>(resources: &[Resource], out: &mut S) -> Result<
     out.end_seq()
 }
 
-/// How many resources have records.
+/// Returns how many resources have records.
 fn count_present(resources: &[Resource]) -> usize
     ensures { result ≡ length (with_records (map resource_of resources.now)) }
 {
@@ -120,7 +120,7 @@ fn is_present(resource: &Resource) -> bool
     has_records(resource.records())
 }
 
-/// A resource that has records; one without isn't written.
+/// Sends a resource if it has records.
 fn send_present<S: Serializer>(resource: &Resource, out: &mut S) -> Result<(), S::Error>
     ensures { OnOk result (SendsWhere (is_some_record (resource_of resource.now).records) (resource_data (resource_of resource.now)) (S.written out.old) (S.written out.new)) }
 {

@@ -1,4 +1,4 @@
--- When objects, records, resources and states are the same: where each of their parts is.
+-- When objects, records, resources and states are the same: if each of their parts is.
 use Rattle.std.specs.Prelude.{◌≡◌, Bool, ◌&&◌, ◌==◌, bytes_eq}
 use Rattle.std.specs.Bool.{Decides}
 use Rattle.std.specs.Cmp.{IsPartialEquivalence, IsEquivalence, decided, on_equiv, partial_equiv_from_equiv, booleans_Decides, unsigned_Decides}
@@ -19,17 +19,17 @@ use mathlib.Core.Bool.{beq}
 abbrev pub attributes_of : Object → Tree
 attributes_of o = tree_of o.value
 
--- records are the same where all that is known of their objects is
+-- records are the same if each part is
 abbrev pub same_record : RecordView → RecordView → Bool
 same_record r s =
     same_object_id r.id s.id && same r.attributes s.attributes && (r.schema_version == s.schema_version) && beq r.tainted s.tainted
     && pointwise bytes_eq r.dependencies s.dependencies && beq r.create_before_destroy s.create_before_destroy
 
--- resources are the same where their addresses and their providers are, and they have the same records
+-- resources are the same if their addresses, their providers and their records are
 abbrev pub same_resource : ResourceView → ResourceView → Bool
 same_resource r s = same_addr r.addr s.addr && bytes_eq r.provider s.provider && pointwise same_record r.records s.records
 
--- states are the same where each part is: serial, lineage, version, outputs and resources
+-- states are the same if each part is: serial, lineage, version, outputs and resources
 abbrev pub same_state : StateView → StateView → Bool
 same_state s t =
     (s.serial == t.serial) && bytes_eq s.lineage t.lineage && bytes_eq s.terraform_version t.terraform_version && same_entries s.outputs t.outputs

@@ -1,4 +1,4 @@
--- What a put and a remove change: what stands at the one address, or is known of the one object, and nothing else.
+-- The only change of a put and a remove: the resource at the one address, or the record of the one object.
 use Rattle.std.specs.Prelude.{◌≡◌, false, Some, None}
 use Rattle.std.specs.Ordering.{is_eq}
 pub use Rattle.tf_config_address.specs.ResourceAddr.{ResourceAddrView}
@@ -11,22 +11,22 @@ use Rattle.tf_state_data.specs.Resource.{record_at, with_record, without_record}
 pub use Rattle.tf_state_data.specs.State.{StateView}
 use Rattle.tf_state_data.specs.State.{resource_at, with_resource, without_resource}
 
--- A resource that was put stands at its address, and at each other address what stood there before.
+-- A resource that was put is found at its address. The other addresses keep what they had.
 pub record PutChangesOneResource (new : ResourceView) (s : StateView) : Type 0 where
   pub there : resource_at new.addr (with_resource new s).resources ≡ Some new
   pub others : (addr : ResourceAddrView) → is_eq (addr_cmp addr new.addr) ≡ false → resource_at addr (with_resource new s).resources ≡ resource_at addr s.resources
 
--- Where a resource was taken out there is none, and at each other address what stood there before.
+-- A removed resource is gone from its address. The other addresses keep what they had.
 pub record RemoveChangesOneResource (addr : ResourceAddrView) (s : StateView) : Type 0 where
   pub gone : resource_at addr (without_resource addr s).resources ≡ None
   pub others : (other : ResourceAddrView) → is_eq (addr_cmp other addr) ≡ false → resource_at other (without_resource addr s).resources ≡ resource_at other s.resources
 
--- A record that was put is that of its object, and of each other object there is what there was before.
+-- A record that was put is found for its object. The other objects keep their records.
 pub record PutChangesOneRecord (new : RecordView) (r : ResourceView) : Type 0 where
   pub there : record_at new.id (with_record new r).records ≡ Some new
   pub others : (id : ObjectIdView) → is_eq (object_id_cmp id new.id) ≡ false → record_at id (with_record new r).records ≡ record_at id r.records
 
--- Where a record was taken out there is none, and of each other object there is what there was before.
+-- A removed record is gone. The other objects keep their records.
 pub record RemoveChangesOneRecord (id : ObjectIdView) (r : ResourceView) : Type 0 where
   pub gone : record_at id (without_record id r).records ≡ None
   pub others : (other : ObjectIdView) → is_eq (object_id_cmp other id) ≡ false → record_at other (without_record id r).records ≡ record_at other r.records

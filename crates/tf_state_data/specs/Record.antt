@@ -1,4 +1,4 @@
--- What is known of one object of a resource, as plain data.
+-- A record of one object, as plain data.
 use Rattle.std.specs.Prelude.{ℕ, Bool, List, map, string_bytes}
 use Rattle.tf_config_address.specs.ObjectId.{ObjectIdView, object_id_of}
 use Rattle.tf_state_data.specs.declared.record.Record.{Record}

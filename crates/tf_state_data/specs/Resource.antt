@@ -28,11 +28,11 @@ with_record new r = record r { records = with_one (λ x. x.id) object_id_cmp new
 abbrev pub without_record : ObjectIdView → ResourceView → ResourceView
 without_record id r = record r { records = without_one (λ x. x.id) object_id_cmp id r.records }
 
--- the resource in which the record of an object, where there is one, has been given anew what it depends on and its flag
+-- the resource with new dependencies and a new flag in the record of an object, if it has one
 abbrev pub with_metadata : ObjectIdView → List (List ℕ) → Bool → ResourceView → ResourceView
 with_metadata id dependencies late r =
     option_map_or (λ x. with_record (record x { id = id; dependencies = dependencies; create_before_destroy = late }) r) (record_at id r.records) r
 
--- there is room for so many records more
+-- there is capacity for n more records
 abbrev pub HasRoomForRecords : ℕ → Resource → Type 0
 HasRoomForRecords n r = vec_len r.records + n ≤ vec_capacity r.records

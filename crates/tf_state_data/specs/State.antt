@@ -1,4 +1,4 @@
--- What a state holds, as plain data.
+-- The content of a state, as plain data.
 use Rattle.std.specs.Prelude.{◌+◌, ◌≤◌, ℕ, List, [], Option, option_and_then, map, codes, String, string_bytes, vec_len, vec_capacity}
 use Rattle.std.specs.declared.alloc.Global.{Global}
 use Rattle.tf_config_address.specs.ResourceAddr.{ResourceAddrView, addr_cmp}
@@ -46,6 +46,6 @@ with_resource new s = record s { resources = with_one (λ r. r.addr) addr_cmp ne
 abbrev pub without_resource : ResourceAddrView → StateView → StateView
 without_resource addr s = record s { resources = without_one (λ r. r.addr) addr_cmp addr s.resources }
 
--- there is room for so many resources more
+-- there is capacity for n more resources
 abbrev pub HasRoomForResources : ℕ → State → Type 0
 HasRoomForResources n s = vec_len s.resources + n ≤ vec_capacity s.resources

@@ -6,7 +6,7 @@ ghost use Rattle.tf_state_data.specs.State.{state_of};
 use crate::state::State;
 use std::alloc::AllocError;
 
-/// An equal state. Refused only where there is no memory.
+/// Returns an equal state. Fails only if memory runs out.
 pub fn copy(state: &State) -> Result<State, AllocError>
     ensures { IfOk result (λ s. state_of s ≡ state_of state.now) }
 {

@@ -1,7 +1,7 @@
-//! The state as data: resources by address, and the records of what exists of each, by id.
+//! The state as data: resources by address, and the records of each resource's objects, by id.
 //!
-//! That resources and records stand in order, none twice, is part of the types, so a look-up halves what is
-//! left at each step, and a put can't make a second one.
+//! The types ensure that resources and records are in order, without duplicates. So a look-up is a binary search, and
+//! a put can't create a duplicate.
 #![tactic(auto)]
 
 mod copies;

@@ -7,8 +7,8 @@ ghost use Rattle.tf_value_data.specs.Tree.{tree_of};
 use std::alloc::AllocError;
 use tf_value_data::Value;
 
-/// A value without an unknown part: the attributes of an object that exists. That no part of it is unknown
-/// is part of the type, so that a state always has a text.
+/// The attributes of an object that exists: a value without an unknown part. The type ensures this, so a state always
+/// has a text.
 #[derive(Debug, Drop)]
 pub struct Object {
     /// The attributes by name.
@@ -16,7 +16,7 @@ pub struct Object {
     pub ghost known: { known (tree_of value) ≡ true },
 }
 
-/// An equal object. Refused only where there is no memory.
+/// Returns an equal object. Fails only if memory runs out.
 impl Clone for Object {
     ghost is_clone = { λ o copy. tree_of copy.value ≡ tree_of o.value };
 
@@ -26,7 +26,7 @@ impl Clone for Object {
     }
 }
 
-/// Two objects are equal exactly where their attributes are the same.
+/// Two objects are equal exactly if their attributes are the same.
 impl PartialEq for Object {
     ghost use Rattle.std.specs.Ordering.{on};
     ghost use Rattle.std.specs.Prelude.{◌↔◌, IsTrue};

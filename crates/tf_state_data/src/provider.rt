@@ -3,9 +3,9 @@ ghost use Rattle.tf_state_data.specs.Provider.{provider_text, provider_name};
 
 use std::alloc::{AllocError, Global};
 
-/// The address of the provider of a resource type, as a state names it:
-/// `provider["registry.terraform.io/hashicorp/P"]`, where P is the type's part before the first `_`, or the
-/// whole type where it has none.
+/// Returns the address of the provider of a resource type, as a state names it:
+/// `provider["registry.terraform.io/hashicorp/P"]`. P is the type's part before the first `_`, or the whole type if
+/// it has no `_`. Fails only if memory runs out.
 pub fn provider_address(alloc: Global, type_name: &str) -> Result<String, AllocError>
     ensures { IfOk result (λ s. string_bytes s ≡ provider_text type_name.now) }
 {

@@ -1,4 +1,4 @@
-//! What is known of one object of a resource.
+//! The state's knowledge of one object of a resource.
 
 use crate::object::Object;
 use std::collections::BTreeSet;
@@ -21,8 +21,8 @@ pub struct Record {
     pub create_before_destroy: bool,
 }
 
-/// Two records are equal exactly where all that they say is the same: the id, the attributes, the version of
-/// the schema, the dependencies and both flags.
+/// Two records are equal exactly if all their parts are the same: the id, the attributes, the version of the schema,
+/// the dependencies and both flags.
 impl PartialEq for Record {
     ghost use Rattle.std.specs.Ordering.{on};
     ghost use Rattle.std.specs.Prelude.{◌≡◌, ◌↔◌, IsTrue};

@@ -1,4 +1,4 @@
-//! A resource and what exists of it.
+//! A resource and the records of its objects.
 
 ghost use Rattle.std.specs.List.Sorted.{IsStrictlySortedBy-prop};
 ghost use Rattle.std.specs.Prelude.{◌≡◌, map};
@@ -11,7 +11,7 @@ use std::collections::BTreeSet;
 use std::mem;
 use tf_config_address::{ObjectId, ResourceAddr};
 
-/// A resource and the records of its objects, which stand in the order of their ids, no two with one.
+/// A resource and the records of its objects, in the order of their ids, without duplicates.
 #[derive(Debug, Drop)]
 pub struct Resource {
     addr: ResourceAddr,
@@ -27,7 +27,7 @@ impl Resource {
     ghost use Rattle.tf_config_address.specs.ObjectId.{object_id_cmp, object_id_of};
     ghost use Rattle.tf_state_data.specs.Resource.{HasRoomForRecords, record_at, resource_of, with_metadata, with_record, without_record};
 
-    /// A resource at an address, with the address of its provider, and without records yet.
+    /// Returns a resource with the given address and provider address, without records.
     pub fn empty(alloc: Global, addr: ResourceAddr, provider: String) -> Resource
         ensures { resource_of result ≡ record { addr = addr_of addr; provider = string_bytes provider; records = [] } }
     {
@@ -39,7 +39,8 @@ impl Resource {
         }
     }
 
-    /// A resource at an address, with the address of its provider, and with records in the order of their ids.
+    /// Returns a resource with the given address, provider address and records, which must be in the order of their
+    /// ids.
     pub fn new(addr: ResourceAddr, provider: String, records: Vec<Record>) -> Resource
         requires { AreById (map record_of records.items) }
         ensures { resource_of result
@@ -52,21 +53,21 @@ impl Resource {
         }
     }
 
-    /// Its type and its name.
+    /// Returns its type and name.
     pub fn addr(&self) -> &ResourceAddr
         ensures { addr_of result.now ≡ (resource_of self.now).addr }
     {
         &self.addr
     }
 
-    /// The address of the provider that made it, as Terraform writes it.
+    /// Returns the address of its provider, as Terraform writes it.
     pub fn provider(&self) -> &str
         ensures { result.now ≡ (resource_of self.now).provider }
     {
         self.provider.as_str()
     }
 
-    /// Its objects, in the order of their ids.
+    /// Returns the records of its objects, in the order of their ids.
     pub fn records(&self) -> &[Record]
         ensures records { map record_of result.now ≡ (resource_of self.now).records }
         ensures ordered { AreById (resource_of self.now).records }
@@ -74,7 +75,7 @@ impl Resource {
         &self.records
     }
 
-    /// The record of an object, where the resource has one.
+    /// Returns the record of an object, if the resource has one.
     pub fn record(&self, id: &ObjectId) -> Option<&Record>
         ensures { option_map (λ r. record_of r.now) result ≡ record_at (object_id_of id.now) (resource_of self.now).records }
     {
@@ -84,7 +85,8 @@ impl Resource {
         }
     }
 
-    /// Makes room for this many records more. Refused only where there is no memory; the resource stays.
+    /// Reserves capacity for the given number of further records. Fails only if memory runs out. The records don't
+    /// change.
     pub fn reserve(&mut self, additional: usize) -> Result<(), AllocError>
         ensures same { resource_of self.new ≡ resource_of self.old }
         ensures room { OnOk result (HasRoomForRecords additional self.new) }
@@ -92,8 +94,8 @@ impl Resource {
         self.records.reserve_exact(additional)
     }
 
-    /// Puts a record in, and gives the one of the same object that was there. It takes no memory, since there has to
-    /// be room (`reserve`).
+    /// Puts a record in, and returns the record of the same object that was there. Requires capacity for one record
+    /// (`reserve`), so it allocates nothing.
     pub fn put(&mut self, new: Record) -> Option<Record>
         requires { HasRoomForRecords 1 self.old }
         ensures put { resource_of self.new ≡ with_record (record_of new) (resource_of self.old) }
@@ -109,8 +111,8 @@ impl Resource {
         }
     }
 
-    /// Gives the record of an object, where the resource has one, what it depends on and its flag anew. It takes no memory, and no
-    /// record is moved.
+    /// Replaces the dependencies and the `create_before_destroy` flag of an object's record, if the resource has one.
+    /// Allocates nothing, and moves no record.
     pub fn renew_metadata(
         &mut self,
         id: ObjectId,
@@ -129,8 +131,8 @@ impl Resource {
         }
     }
 
-    /// Takes the record of an object out of the resource, where it has one. Its room is free again, so it can be put
-    /// back, changed, without memory.
+    /// Removes the record of an object and returns it, if the resource has one. Its capacity is free again, so the
+    /// record can be changed and put back without an allocation.
     pub fn remove(&mut self, id: &ObjectId) -> Option<Record>
         ensures taken { option_map record_of result ≡ record_at (object_id_of id.now) (resource_of self.old).records }
         ensures left { resource_of self.new ≡ without_record (object_id_of id.now) (resource_of self.old) }
@@ -143,7 +145,7 @@ impl Resource {
         }
     }
 
-    /// Where the record of an object stands, or where it would stand.
+    /// Returns the index of an object's record, or the index at which to insert one.
     fn search(&self, id: &ObjectId) -> Result<usize, usize>
         ensures found { IfOk result (IsAt (λ r. r.id) object_id_cmp (object_id_of id.now) (resource_of self.now).records) }
         ensures absent { IfErr result (IsGapFor (λ r. r.id) object_id_cmp (object_id_of id.now) (resource_of self.now).records) }
@@ -152,7 +154,7 @@ impl Resource {
     }
 }
 
-/// An equal resource. Refused only where there is no memory.
+/// Returns an equal resource. Fails only if memory runs out.
 impl Clone for Resource {
     ghost use Rattle.tf_state_data.specs.Resource.{resource_of};
 
@@ -170,7 +172,7 @@ impl Clone for Resource {
     }
 }
 
-/// Two resources are equal exactly where all that they say is the same: the address, the provider and the records.
+/// Two resources are equal exactly if all their parts are the same: the address, the provider and the records.
 impl PartialEq for Resource {
     ghost use Rattle.std.specs.Ordering.{on};
     ghost use Rattle.std.specs.Prelude.{◌↔◌, IsTrue};

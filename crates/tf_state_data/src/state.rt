@@ -1,4 +1,4 @@
-//! What a state holds.
+//! The content of a state.
 
 ghost use Rattle.std.specs.List.Sorted.{IsStrictlySortedBy-prop};
 ghost use Rattle.std.specs.Prelude.{◌≡◌, map};
@@ -13,8 +13,8 @@ use std::collections::BTreeMap;
 use std::mem;
 use tf_config_address::{ObjectId, ResourceAddr};
 
-/// All that is known of what exists: the content of a state file. Its resources stand in the order of their
-/// addresses, no two at one address.
+/// The content of a state file: everything that is known of the objects that exist. Its resources are in the order of
+/// their addresses, without duplicates.
 #[derive(Debug, Drop)]
 pub struct State {
     serial: u32,
@@ -33,8 +33,8 @@ impl State {
     ghost use Rattle.tf_state_data.specs.Record.{record_of};
     ghost use Rattle.tf_state_data.specs.State.{HasRoomForResources, empty_state, outputs_of, record_in, resource_at, state_of, with_resource, without_resource};
 
-    /// The state before anything exists: serial 0, version 1.0.0, no resources. Refused only where there is no
-    /// memory.
+    /// Returns the state before anything exists: serial 0, version 1.0.0, no resources. Fails only if memory runs
+    /// out.
     pub fn empty(alloc: Global, lineage: &str) -> Result<State, AllocError>
         ensures { IfOk result (λ s. state_of s ≡ empty_state lineage.now) }
     {
@@ -47,7 +47,7 @@ impl State {
         })
     }
 
-    /// A state of these parts, with resources in the order of their addresses.
+    /// Returns a state of the given parts. The resources must be in the order of their addresses.
     pub fn new(
         serial: u32,
         lineage: String,
@@ -74,7 +74,7 @@ impl State {
         }
     }
 
-    /// How often the state has changed.
+    /// Returns how often the state has changed.
     pub fn serial(&self) -> u32
         ensures { result ≡ (state_of self.now).serial }
     {
@@ -89,28 +89,28 @@ impl State {
         self.serial = serial;
     }
 
-    /// The name of the line of states that this one belongs to, kept from state to state.
+    /// Returns the text that the states of one history share.
     pub fn lineage(&self) -> &str
         ensures { result.now ≡ (state_of self.now).lineage }
     {
         self.lineage.as_str()
     }
 
-    /// The version of Terraform that the file names, kept from state to state.
+    /// Returns the version of Terraform that the file names. It passes from state to state.
     pub fn terraform_version(&self) -> &str
         ensures { result.now ≡ (state_of self.now).terraform_version }
     {
         self.terraform_version.as_str()
     }
 
-    /// The outputs by name.
+    /// Returns the outputs by name.
     pub fn outputs(&self) -> &BTreeMap<String, Object>
         ensures { outputs_of result.now.entries ≡ (state_of self.now).outputs }
     {
         &self.outputs
     }
 
-    /// Puts these outputs in place of those of the state, and gives the ones that were there.
+    /// Replaces the outputs and returns the previous ones.
     pub fn replace_outputs(&mut self, outputs: BTreeMap<String, Object>) -> BTreeMap<String, Object>
         ensures put { state_of self.new ≡ record (state_of self.old) { outputs = outputs_of outputs.entries } }
         ensures replaced { outputs_of result.entries ≡ (state_of self.old).outputs }
@@ -119,7 +119,7 @@ impl State {
         mem::replace(&mut self.outputs, outputs)
     }
 
-    /// The resources, in the order of their addresses.
+    /// Returns the resources, in the order of their addresses.
     pub fn resources(&self) -> &[Resource]
         ensures resources { map resource_of result.now ≡ (state_of self.now).resources }
         ensures ordered { AreByAddress (state_of self.now).resources }
@@ -127,7 +127,7 @@ impl State {
         &self.resources
     }
 
-    /// The resource at an address, where the state has one.
+    /// Returns the resource at an address, if the state has one.
     pub fn resource(&self, addr: &ResourceAddr) -> Option<&Resource>
         ensures { option_map (λ r. resource_of r.now) result ≡ resource_at (addr_of addr.now) (state_of self.now).resources }
     {
@@ -137,7 +137,7 @@ impl State {
         }
     }
 
-    /// The record of an object, by the address of its resource and by its id, where the state has one.
+    /// Returns the record of an object, by the address of its resource and by its id, if the state has one.
     pub fn record(&self, addr: &ResourceAddr, id: &ObjectId) -> Option<&Record>
         ensures { option_map (λ r. record_of r.now) result ≡ record_in (addr_of addr.now) (object_id_of id.now) (state_of self.now) }
     {
@@ -147,7 +147,8 @@ impl State {
         }
     }
 
-    /// Makes room for this many resources more. Refused only where there is no memory; the state stays.
+    /// Reserves capacity for the given number of further resources. Fails only if memory runs out. The state doesn't
+    /// change.
     pub fn reserve(&mut self, additional: usize) -> Result<(), AllocError>
         ensures same { state_of self.new ≡ state_of self.old }
         ensures room { OnOk result (HasRoomForResources additional self.new) }
@@ -155,8 +156,8 @@ impl State {
         self.resources.reserve(additional)
     }
 
-    /// Puts a resource at its address, and gives the one that was there. It takes no memory, since there has to
-    /// be room (`reserve`).
+    /// Puts a resource at its address, and returns the one that was there. Requires capacity for one resource
+    /// (`reserve`), so it allocates nothing.
     pub fn put(&mut self, resource: Resource) -> Option<Resource>
         requires { HasRoomForResources 1 self.old }
         ensures put { state_of self.new ≡ with_resource (resource_of resource) (state_of self.old) }
@@ -172,8 +173,8 @@ impl State {
         }
     }
 
-    /// Takes the resource at an address out of the state, where it has one. Its room is free again, so it can be put
-    /// back, changed, without memory.
+    /// Removes the resource at an address and returns it, if the state has one. Its capacity is free again, so the
+    /// resource can be changed and put back without an allocation.
     pub fn remove(&mut self, addr: &ResourceAddr) -> Option<Resource>
         ensures taken { option_map resource_of result ≡ resource_at (addr_of addr.now) (state_of self.old).resources }
         ensures left { state_of self.new ≡ without_resource (addr_of addr.now) (state_of self.old) }
@@ -186,7 +187,7 @@ impl State {
         }
     }
 
-    /// Where the resource at an address stands, or where it would stand.
+    /// Returns the index of the resource at an address, or the index at which to insert one.
     fn search(&self, addr: &ResourceAddr) -> Result<usize, usize>
         ensures found { IfOk result (IsAt (λ r. r.addr) addr_cmp (addr_of addr.now) (state_of self.now).resources) }
         ensures absent { IfErr result (IsGapFor (λ r. r.addr) addr_cmp (addr_of addr.now) (state_of self.now).resources) }
@@ -196,7 +197,7 @@ impl State {
     }
 }
 
-/// An equal state. Refused only where there is no memory.
+/// Returns an equal state. Fails only if memory runs out.
 impl Clone for State {
     ghost use Rattle.tf_state_data.specs.State.{state_of};
 
@@ -217,8 +218,8 @@ impl Clone for State {
     }
 }
 
-/// Two states are equal exactly where all that they say is the same: the serial, the lineage, the version, the
-/// outputs and the resources. So an apply can tell whether it changed anything, and raises the serial exactly then.
+/// Two states are equal exactly if all their parts are the same: the serial, the lineage, the version, the outputs
+/// and the resources. So an apply can see whether it changed anything, and raises the serial exactly then.
 impl PartialEq for State {
     ghost use Rattle.std.specs.Ordering.{on};
     ghost use Rattle.std.specs.Prelude.{◌↔◌, IsTrue};

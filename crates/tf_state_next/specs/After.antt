@@ -19,7 +19,7 @@ object_at key deposed = record { key = key; deposed = deposed }
 abbrev pub places_in : InstanceKeyView → List RecordView → Places
 places_in key records deposed = record_at (object_at key deposed) records
 
--- The record of an object that a create or an update saved: it is the current one, with what the record is given.
+-- The record of an object that a create or an update saved: it is the current one, with the record's input.
 abbrev pub record_of_saved : RecordInputView → SavedView → RecordView
 record_of_saved g s =
     record {
@@ -31,7 +31,7 @@ record_of_saved g s =
       create_before_destroy = g.create_before_destroy;
     }
 
--- the record of an object for which nothing was planned: what it depends on and whether it is late are given anew
+-- the record of an object for which nothing was planned, with new dependencies and a new flag for a late resource
 abbrev pub renewed : List (List ℕ) → Bool → RecordView → RecordView
 renewed dependencies late r = record r { dependencies = dependencies; create_before_destroy = late }
 
@@ -39,44 +39,44 @@ renewed dependencies late r = record r { dependencies = dependencies; create_bef
 abbrev pub as_deposed : List ℕ → RecordView → RecordView
 as_deposed key r = record r { id = object_at r.id.key (Some key) }
 
--- what a destroy leaves of a record: none, the record with other attributes, or the record as it is
+-- what a destroy leaves of a record: nothing, the record with other attributes, or the record as it is
 abbrev pub left_of_record : LeftView → RecordView → Option RecordView
 left_of_record gone r = None
 left_of_record (changed t) r = Some (record r { attributes = t })
 left_of_record unchanged r = Some r
 
--- the same where there may have been no destroy, and no record
+-- what a destroy, if there was one, leaves of a record, if there was one
 abbrev pub after_destroy : Option LeftView → Option RecordView → Option RecordView
 after_destroy None before = before
 after_destroy (Some left) before = option_and_then (left_of_record left) before
 
--- The current object is the one that was saved. Where none was, it is what the destroy left of the one that was there; and
--- where nothing was planned, that one with what it is given anew.
+-- The current object is the one that was saved. If no object was saved, it is what the destroy left of the old one. If
+-- nothing was planned, it is the old one with new metadata.
 abbrev pub current_after : RecordInputView → ApplyResultView → Option RecordView → Option RecordView
 current_after g (saved s) left = Some (record_of_saved g s)
 current_after g unplanned left = option_map (renewed g.dependencies g.create_before_destroy) left
 current_after g nothing left = left
 current_after g unwanted left = left
 
--- The object that was current becomes deposed under a key where that is the one given for it and an object was saved in its
--- place, unless its destroy left nothing of it.
+-- The object that was current becomes deposed under a key if that is the one given for it and an object was saved in
+-- its place, unless its destroy left nothing of it.
 abbrev pub deposed_anew : RecordInputView → ApplyResultView → Option RecordView → List ℕ → Option RecordView
 deposed_anew g (saved s) left key = if option_eq bytes_eq g.deposed_key (Some key) then option_map (as_deposed key) left else None
 deposed_anew g _ left key = None
 
--- what came of the destroy of the object that is deposed under a key, where there was one
+-- the outcome of the destroy of the object that is deposed under a key, if there was one
 abbrev pub destroy_under : List ℕ → List (List ℕ × LeftView) → Option LeftView
 destroy_under key destroyed = option_map (λ d. d.1) (find (λ d. bytes_eq d.0 key) destroyed)
 
--- What is known of an instance's objects after its actions: of the current object, as above; under the key of a deposed one
--- the object that became deposed, or else what its destroy left of the one that was there.
+-- What is known of an instance's objects after its actions. The current object is as above. Under the key of a deposed
+-- one is the object that became deposed, or else what its destroy left of the earlier one.
 abbrev pub instance_after : RecordInputView → InstanceResultView → Places → Places
 instance_after g ends before None = current_after g ends.applied (after_destroy ends.destroyed (before None))
 instance_after g ends before (Some key) =
     option_or (deposed_anew g ends.applied (after_destroy ends.destroyed (before None)) key) (after_destroy (destroy_under key ends.deposed) (before (Some key)))
 
--- A resource after the actions of one of its instances: what is known of that one's objects is as above, of those of other
--- instances what was known before, and its address and its provider stay.
+-- A resource after the actions of one of its instances. What is known of that instance's objects is as above, and of
+-- those of other instances as before. The address and the provider stay.
 pub record IsAfter (g : RecordInputView) (ends : InstanceResultView) (before after : ResourceView) : Type 0 where
   pub own : (deposed : Option (List ℕ)) → places_in g.key after.records deposed ≡ instance_after g ends (places_in g.key before.records) deposed
   pub others : (id : ObjectIdView) → ¬ (id.key ≡ g.key) → record_at id after.records ≡ record_at id before.records

@@ -1,4 +1,4 @@
--- What came of the actions of an instance, as plain data.
+-- The outcomes of an instance's actions, as plain data.
 use Rattle.std.specs.Prelude.{ℕ, Bool, List, [], ◌∷◌, Option, Some, None, option_map, map, string_bytes}
 use Rattle.tf_config_address.specs.ObjectId.{InstanceKeyView, instance_key_of}
 use Rattle.tf_state_next.specs.declared.ends.RecordInput.{RecordInput}
@@ -17,29 +17,29 @@ pub data LeftView : Type 0 where
   changed : Tree → LeftView
   unchanged : LeftView
 
--- What came of the create or the update of an instance: no object was wanted; one was, and nothing was planned for it; it
--- saved nothing; or it saved an object.
+-- The outcome of the create or the update of an instance. Either no object was wanted, or one was wanted and nothing
+-- was planned for it, or the action saved nothing, or it saved an object.
 pub data ApplyResultView : Type 0 where
   unwanted : ApplyResultView
   unplanned : ApplyResultView
   nothing : ApplyResultView
   saved : SavedView → ApplyResultView
 
--- what came of a create or an update that was planned: it saved an object, or nothing
+-- the outcome of a create or an update that was planned: it saved an object, or nothing
 abbrev pub as_applied : Option SavedView → ApplyResultView
 as_applied None = nothing
 as_applied (Some s) = saved s
 
--- What came of all actions of an instance: of the create or the update; of the destroy of the object that was current,
--- where one was planned; and of the destroys of deposed objects, by their keys.
+-- The outcomes of all actions of an instance: of the create or the update; of the destroy of the object that was
+-- current, if it was planned; and of the destroys of deposed objects, by their keys.
 pub record InstanceResultView : Type 0 where
   pub applied : ApplyResultView
   pub destroyed : Option LeftView
   pub deposed : List (List ℕ × LeftView)
 
--- What the record of an object is given: its instance, the version of its schema, the addresses of the resources that its
--- resource needs, and whether that is late; and the key that the old object has if it becomes deposed, none but in a
--- replace that creates first.
+-- The input for the record of an object: its instance, the version of its schema, the addresses of the resources that
+-- its resource needs, and whether that resource is late. The key that the old object gets if it becomes deposed is
+-- given only in a replace that creates first.
 pub record RecordInputView : Type 0 where
   pub key : InstanceKeyView
   pub schema_version : ℕ
@@ -47,7 +47,7 @@ pub record RecordInputView : Type 0 where
   pub create_before_destroy : Bool
   pub deposed_key : Option (List ℕ)
 
--- ---- what the code's types stand for
+-- ---- the code's types as plain data
 
 abbrev pub saved_of : Saved → SavedView
 saved_of s = (tree_of s.attributes.value, s.tainted)

@@ -1,4 +1,4 @@
--- What is recorded in resources, by what came of some actions.
+-- Resources after the outcomes of some actions were recorded.
 use Rattle.std.specs.Prelude.{◌≡◌, ℕ, List, [], Option, None, option_and_then, map}
 use Rattle.std.specs.List.{AllByRecursion}
 use Rattle.tf_config_address.specs.ResourceAddr.{ResourceAddrView}
@@ -22,16 +22,16 @@ places_among addr key rs deposed = record_among addr (object_at key deposed) rs
 abbrev pub heads_of : List ResourceView → List (ResourceAddrView × List ℕ)
 heads_of = map (λ r. (r.addr, r.provider))
 
--- Resources after some destroys: of each object is known what its destroy left of what was known before.
+-- Resources after some destroys: what is known of each object is what its destroy left of what was known before.
 pub record AreDestroyed (destroys : List DestroyView) (before after : List ResourceView) : Type 0 where
   pub known : (addr : ResourceAddrView) (id : ObjectIdView) → record_among addr id after ≡ after_destroy (left_of_object addr id destroys) (record_among addr id before)
   pub heads : heads_of after ≡ heads_of before
 
--- what came of the create or the update of an instance alone
+-- the outcome of the create or the update of an instance alone
 abbrev pub ends_by : List ApplyView → ResourceAddrView → InstanceKeyView → InstanceResultView
 ends_by applies addr key = record { applied = applied_by applies addr key; destroyed = None; deposed = [] }
 
--- Resources after some creates and updates: of each object is known what comes of those of its instance.
+-- Resources after some creates and updates: what is known of each object follows from those of its instance.
 pub record AreApplied (applies : List ApplyView) (before after : List ResourceView) : Type 0 where
   pub known : (addr : ResourceAddrView) (key : InstanceKeyView) (deposed : Option (List ℕ)) → record_among addr (object_at key deposed) after ≡ instance_after (given_by applies addr key) (ends_by applies addr key) (places_among addr key before) deposed
   pub heads : heads_of after ≡ heads_of before
@@ -40,8 +40,8 @@ pub record AreApplied (applies : List ApplyView) (before after : List ResourceVi
 abbrev pub AreThere : List ResourceAddrView → List ResourceView → Type 0
 AreThere addrs rs = AllByRecursion (λ addr. ¬ (resource_at addr rs ≡ None)) addrs
 
--- Resources after all that came of the actions: after the destroys, then what is given anew, and then what came of the
--- creates and updates.
+-- Resources after the outcomes of all actions: first the destroys, then the metadata updates, and then the creates and
+-- updates.
 pub record IsRecorded (e : EventsView) (before after : List ResourceView) : Type 0 where
   pub mid : List ResourceView
   pub late : List ResourceView

@@ -6,8 +6,8 @@ use Rattle.tf_state_next.specs.Events.{ApplyView, DestroyView, EventsView, wante
 use Rattle.tf_state.specs.Valid.{AreAddresses, IsAttributes, IsDeposed, IsKey}
 use Rattle.tf_state_next.specs.Ends.{LeftView, gone, changed, unchanged, SavedView, ApplyResultView, unwanted, unplanned, nothing, saved}
 
--- An object that was saved: its address is of names, its instance and what it is given are such as a valid state has, and its
--- attributes may be stored.
+-- A saved object: its address consists of names, its instance and its record's input are such as a valid state has, and
+-- its attributes may be stored.
 pub record IsSoundObject (a : ApplyView) (s : SavedView) : Type 0 where
   pub type_name : is_name a.addr.type_name ≡ true
   pub name : is_name a.addr.name ≡ true
@@ -17,7 +17,8 @@ pub record IsSoundObject (a : ApplyView) (s : SavedView) : Type 0 where
   pub deposed_key : IsDeposed a.given.deposed_key
   pub attributes : IsAttributes s.0
 
--- What came of a create or an update: an object is as above, and what a record is given anew are addresses.
+-- The outcome of a create or an update: a saved object is as above, and the new dependencies in a metadata update are
+-- addresses.
 abbrev pub IsSoundBy : ApplyView → ApplyResultView → Type 0
 IsSoundBy a (saved s) = IsSoundObject a s
 IsSoundBy a unplanned = AreAddresses a.given.dependencies

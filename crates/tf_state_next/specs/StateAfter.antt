@@ -21,21 +21,21 @@ places_at addr key s deposed = record_in addr (object_at key deposed) s
 abbrev pub has_records : ResourceView → Bool
 has_records r = is_some_record r.records
 
--- The provider of a resource: that of the prior state, where it has the resource; else that of its type.
+-- The provider of a resource: that of the prior state, if it has the resource, or else that of its type.
 abbrev pub provider_after : StateView → ResourceAddrView → List ℕ
 provider_after prior addr = option_map_or (λ r. r.provider) (resource_at addr prior.resources) (provider_text addr.type_name)
 
--- whether states are the same but for their serials
+-- whether states are the same except for their serials
 abbrev pub is_same : StateView → StateView → Bool
 is_same prior after = same_state (record after { serial = prior.serial }) prior
 
--- The serial is one more than the prior one exactly where the rest of the state isn't the same.
+-- The serial is one more than the prior one exactly if the rest of the state isn't the same.
 abbrev pub next_serial : StateView → StateView → ℕ
 next_serial prior after = if is_same prior after then prior.serial else prior.serial + 1
 
--- The state after an apply, by what each instance is given and what came of its actions, and by the outputs: what is known
--- of each object is what comes of its instance's actions; a resource is there exactly where an object of it is known, with
--- its provider; outputs are these; lineage and version stay; and the serial is one more exactly where the rest
+-- The state after an apply, by what each instance is given, the outcomes of its actions, and the outputs. What is known
+-- of each object follows from its instance's actions. A resource exists exactly if an object of it is known, and has
+-- its provider. The outputs are the given ones. Lineage and version stay. The serial is one more exactly if the rest
 -- isn't the same.
 pub record IsStateAfter (prior : StateView) (given : ResourceAddrView → InstanceKeyView → RecordInputView) (ends : ResourceAddrView → InstanceKeyView → InstanceResultView) (outputs : Entries) (after : StateView) : Type 0 where
   pub records : (addr : ResourceAddrView) (id : ObjectIdView) → record_in addr id after ≡ instance_after (given addr id.key) (ends addr id.key) (places_at addr id.key prior) id.deposed

@@ -1,4 +1,4 @@
-//! What the state after an apply is made of.
+//! The draft of the state after an apply.
 
 ghost use Rattle.std.specs.Prelude.{◌≡◌, [], ◌∷◌, IfOk, OnOk, map, replicate};
 ghost use Rattle.tf_config_address.specs.ResourceAddr.{addr_of};
@@ -12,7 +12,7 @@ use std::alloc::{AllocError, Global};
 use tf_config_address::ResourceAddr;
 use tf_state_data::{Resource, State, provider_address};
 
-/// What the state after an apply is made of, all of which is had before the first call.
+/// The draft of the state after an apply, all of which is allocated before the first call.
 #[derive(Drop)]
 pub struct StateDraft<'a> {
     pub(crate) prior: &'a State,
@@ -21,12 +21,12 @@ pub struct StateDraft<'a> {
     pub(crate) resources: Vec<Resource>,
 }
 
-/// What the state after an apply is made of, by the state before it and by the address of each create and update, as often
-/// as there are such actions at it.
+/// Builds the draft of the state after an apply from the state before it and from the address of each create and
+/// update, as often as there are such actions at it.
 ///
 /// # Errors
 ///
-/// Only where memory runs out.
+/// Fails with `AllocError` if memory runs out.
 pub fn draft_state<'a>(
     alloc: Global,
     prior: &'a State,
@@ -47,7 +47,7 @@ pub fn draft_state<'a>(
     })
 }
 
-/// An equal copy of each resource.
+/// Returns an equal copy of each resource.
 fn copies(alloc: Global, resources: &[Resource]) -> Result<Vec<Resource>, AllocError>
     ensures { IfOk result (λ copies. map resource_of copies.items ≡ map resource_of resources.now) }
 {
@@ -58,7 +58,7 @@ fn copies(alloc: Global, resources: &[Resource]) -> Result<Vec<Resource>, AllocE
     Ok(copies)
 }
 
-/// Adds an empty resource at each of these addresses at which there is none.
+/// Adds an empty resource at each of these addresses that has no resource.
 fn add_all(
     alloc: Global,
     resources: &mut Vec<Resource>,
@@ -73,7 +73,7 @@ fn add_all(
     Ok(())
 }
 
-/// Adds an empty resource at an address, where there is none.
+/// Adds an empty resource at an address, if there is no resource.
 fn add_missing(
     alloc: Global,
     resources: &mut Vec<Resource>,
@@ -90,7 +90,7 @@ fn add_missing(
     Ok(())
 }
 
-/// Makes room in each resource for one record for each time that its address is one of these.
+/// Reserves space in each resource for one record for each time that its address is one of these.
 fn make_room(
     alloc: Global,
     resources: &mut [Resource],
@@ -107,7 +107,7 @@ fn make_room(
     Ok(())
 }
 
-/// How often the address of each resource is one of these.
+/// Counts how often the address of each resource is one of these.
 fn counts_of(
     alloc: Global,
     resources: &[Resource],
@@ -130,7 +130,7 @@ fn counts_of(
     Ok(counts)
 }
 
-/// So many counts, of nothing yet.
+/// Returns the given number of counts, all zero.
 fn no_counts(alloc: Global, count: usize) -> Result<Vec<usize>, AllocError>
     ensures { IfOk result (λ counts. counts.items ≡ replicate count 0) }
 {

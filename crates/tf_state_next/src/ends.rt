@@ -1,10 +1,10 @@
-//! What came of the actions of an instance.
+//! The outcomes of an instance's actions.
 
 use std::collections::BTreeSet;
 use tf_config_address::InstanceKey;
 use tf_state_data::Object;
 
-/// An object that a create or an update saved. A provider made it, so it can be neither copied nor let go.
+/// An object that a create or an update saved. A provider made it, so it can be neither copied nor dropped.
 pub struct Saved {
     /// Its attributes.
     pub attributes: Object,
@@ -12,17 +12,17 @@ pub struct Saved {
     pub tainted: bool,
 }
 
-/// What a destroy left of an object. As it may hold what a provider replied, it can be neither copied nor let go.
+/// What a destroy left of an object. As it may hold what a provider returned, it can be neither copied nor dropped.
 pub enum Left {
     /// The object is gone.
     Gone,
     /// The object is there with these attributes.
     Changed(Object),
-    /// What is known of the object stays: nothing was called, or the reply told nothing of it.
+    /// What is known of the object stays: no provider was called, or the reply said nothing of it.
     Unchanged,
 }
 
-/// What the record of an instance's object is given, all of which is had before the first call.
+/// The input for the record of an instance's object, all of which is allocated before the first call.
 #[derive(Drop)]
 pub struct RecordInput {
     /// The instance.
@@ -33,6 +33,6 @@ pub struct RecordInput {
     pub dependencies: BTreeSet<String>,
     /// Whether its resource is late.
     pub create_before_destroy: bool,
-    /// The key that the old object has if it becomes deposed; none but in a replace that creates first.
+    /// The key that the old object gets if it becomes deposed; `None` except in a replace that creates first.
     pub deposed_key: Option<String>,
 }

@@ -11,14 +11,14 @@ use std::alloc::{AllocError, Global};
 use tf_config_address::InstanceKey;
 use tf_state_data::Record;
 
-/// The key that an object of an instance has if it becomes deposed: eight lower-case hex digits of the new serial, or of the
-/// first serial after it, around past the last one, whose key no deposed object of the instance has. The records are those of
-/// the instance's resource before the apply, so the key is the same whatever the apply destroys, and can be had before the
-/// first call.
+/// Returns the key that an object of an instance gets if it becomes deposed: eight lower-case hex digits of the first
+/// serial, from the new one on, whose key no deposed object of the instance has. Serial 0 comes after the last one. The
+/// records are those of the instance's resource before the apply, so the key is the same whatever the apply destroys,
+/// and can be computed before the first call.
 ///
 /// # Errors
 ///
-/// Only where memory runs out.
+/// Fails with `AllocError` if memory runs out.
 pub fn deposed_key(
     alloc: Global,
     serial: u32,
@@ -37,14 +37,14 @@ pub fn deposed_key(
     unreachable!()
 }
 
-/// A serial as the key of a deposed object.
+/// Returns a serial as the key of a deposed object.
 fn key_text(alloc: Global, serial: u32) -> Result<String, AllocError>
     ensures { IfOk result (λ text. string_bytes text ≡ key_text serial) }
 {
     format!(in alloc; "{serial:08x}")
 }
 
-/// Whether an object of an instance is deposed under a key.
+/// Checks whether an object of an instance is deposed under a key.
 fn is_used(key: &InstanceKey, records: &[Record], text: &str) -> bool
     ensures { result ≡ is_used (instance_key_of key.now) (map record_of records.now) text.now }
 {
@@ -56,7 +56,7 @@ fn is_used(key: &InstanceKey, records: &[Record], text: &str) -> bool
     false
 }
 
-/// Whether the object of a record is one of an instance that is deposed under a key.
+/// Checks whether the object of a record is one of an instance that is deposed under a key.
 fn has_key(kept: &Record, key: &InstanceKey, text: &str) -> bool
     ensures { result ≡ same_object_id (object_id_of kept.now.id) (object_at (instance_key_of key.now) (Some text.now)) }
 {

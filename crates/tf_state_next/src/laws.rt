@@ -2,12 +2,13 @@
 
 ghost use Rattle.tf_state_next.specs.Laws.{StateAfterIsOne, StateAfterIsValid};
 
-/// At most one state comes of what came of the actions.
+/// States that at most one state follows from the outcomes of the actions.
 pub fn state_after_is_one()
     ensures { StateAfterIsOne }
 {}
 
-/// What comes of a valid state is valid, where what was recorded may be part of one.
+/// States that the state after a valid state is valid, if what was recorded may be part of a valid state and the
+/// outputs may be stored.
 pub fn state_after_is_valid()
     ensures { StateAfterIsValid }
 {}

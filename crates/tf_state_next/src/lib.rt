@@ -1,11 +1,12 @@
-//! The state after an apply, out of what came of each of its actions.
+//! The state after an apply, computed from the outcome of each of its actions.
 //!
-//! A create or an update saves an object or nothing, and a destroy leaves an object or nothing (`specs/Saved.antt`). What
-//! stands afterwards for the current object of an instance and for its deposed ones is a function of what stood there and
-//! of what came of the instance's actions (`specs/After.antt`); a resource is part of the state after where an object of it is
-//! known (`specs/StateAfter.antt`). By then providers were called, so nothing here may fail: a resource is changed in place,
-//! without memory. The key of an object that may become deposed (`specs/DeposedKey.antt`), what a record is given and room for
-//! all (`draft_state`) are had before the first call, and nothing is taken for the state after (`state_after`).
+//! A create or an update saves an object or nothing, and a destroy leaves an object or nothing (`specs/Saved.antt`).
+//! The records of an instance's current object and of its deposed ones afterwards are a function of the records before
+//! and of the outcomes of the instance's actions (`specs/After.antt`). A resource is part of the state after if an
+//! object of it is known (`specs/StateAfter.antt`). Providers were called by then, so nothing here may fail: a resource
+//! is changed in place, without memory. The key of an object that may become deposed (`specs/DeposedKey.antt`), the
+//! input for each record and space for all (`draft_state`) are allocated before the first call, and nothing is
+//! allocated for the state after (`state_after`).
 #![tactic(auto)]
 
 mod draft;

@@ -2,15 +2,16 @@
 // law, and its body does nothing.
 ghost use Rattle.tf_state_next.specs.ObjectLaws.{AfterIsOne, DeposedStay, DestroysCombine, KeyExists, KeyIsFree, KeyIsHex, KeyIsOne, NothingIsForgotten, OldIsDeposed, OldStays, RoomsSuffice, SavedIsCurrent};
 
-/// What comes of an instance's actions is one resource, and the destroys of its deposed objects may come before the rest
-/// or after it.
+/// States that an instance's actions give at most one resource, and that the destroys of its deposed objects may come
+/// before the rest or after it.
 pub fn after_is_one()
     ensures one { AfterIsOne }
     ensures combined { DestroysCombine }
 {}
 
-/// Each object keeps a record unless a good destroy took it, each one that was saved has one, and no deposed object is
-/// overwritten. The old object becomes deposed where another was saved, and stays current where none was.
+/// States that each object keeps a record unless a good destroy took it, that each saved object has one, and that no
+/// deposed object is overwritten. The old object becomes deposed if another was saved, and stays current if nothing was
+/// saved.
 pub fn nothing_is_forgotten()
     ensures forgotten { NothingIsForgotten }
     ensures saved { SavedIsCurrent }
@@ -19,8 +20,8 @@ pub fn nothing_is_forgotten()
     ensures current { OldStays }
 {}
 
-/// There is one key for an object that becomes deposed, where records are fewer than serials, and it is the only one. It is
-/// eight lower-case hex digits, and no object is deposed under it.
+/// States that there is exactly one key for an object that becomes deposed, if there are fewer records than serials. It
+/// is eight lower-case hex digits, and no object is deposed under it.
 pub fn keys_are_free()
     ensures one { KeyIsOne }
     ensures exists { KeyExists }
@@ -28,7 +29,7 @@ pub fn keys_are_free()
     ensures hex { KeyIsHex }
 {}
 
-/// Room for one record of each create or update of a resource is enough.
+/// States that space for one record of each create or update of a resource is enough.
 pub fn rooms_suffice()
     ensures { RoomsSuffice }
 {}

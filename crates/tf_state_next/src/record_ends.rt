@@ -1,4 +1,4 @@
-//! What came of an instance's actions is recorded, without memory.
+//! Records the outcomes of an instance's actions, without taking memory.
 
 ghost use Rattle.std.specs.Prelude.{◌≡◌, ◌+◌, ℕ, None, IfNone, IfSome, IsSome, option_and_then, option_map, string_bytes};
 ghost use Rattle.tf_config_address.specs.ObjectId.{object_id_of};
@@ -12,9 +12,9 @@ use crate::ends::{Left, RecordInput, Saved};
 use tf_config_address::ObjectId;
 use tf_state_data::{Record, Resource};
 
-/// Records what came of the create or the update of an instance. Where an object was saved and a key is given for the one that
-/// was there, that becomes deposed; else the record is written over where it stands, and no other is moved. It takes no memory:
-/// where an object was saved there has to be room for one record more.
+/// Records the outcome of the create or the update of an instance. If an object was saved and a key is given for the
+/// old object, that one becomes deposed. Otherwise a saved object's record overwrites the old one in place, and no
+/// other is moved. Takes no memory: if an object was saved, there has to be space for one more record.
 pub fn record_apply(resource: &mut Resource, given: RecordInput, saved: Option<Saved>)
     requires { HasRoomForRecords (records_more (as_applied (option_map saved_of saved))) resource.old }
     ensures after { IsAfter (record_input_of given) (apply_of (as_applied (option_map saved_of saved))) (resource_of resource.old) (resource_of resource.new) }
@@ -33,7 +33,7 @@ pub fn record_apply(resource: &mut Resource, given: RecordInput, saved: Option<S
     }
 }
 
-/// Gives the record of the current object of an instance what it is given anew.
+/// Updates the metadata of the record of an instance's current object.
 pub(crate) fn renew_record(resource: &mut Resource, given: RecordInput)
     ensures renewed { resource_of resource.new ≡ with_metadata (object_at (record_input_of given).key None)
         (record_input_of given).dependencies (record_input_of given).create_before_destroy (resource_of resource.old) }
@@ -50,7 +50,7 @@ pub(crate) fn renew_record(resource: &mut Resource, given: RecordInput)
     resource.renew_metadata(id, dependencies, create_before_destroy);
 }
 
-/// Puts in the record of an object that was saved, in place of the one that was there.
+/// Stores the record of a saved object, in place of an earlier one.
 fn put_saved(resource: &mut Resource, given: RecordInput, object: Saved)
     requires { HasRoomForRecords 1 resource.old }
     ensures put { resource_of resource.new ≡ with_record (record_of_saved (record_input_of given) (saved_of object)) (resource_of resource.old) }
@@ -73,7 +73,7 @@ fn put_saved(resource: &mut Resource, given: RecordInput, object: Saved)
     }));
 }
 
-/// Puts in the record of an object that was saved. The one that was there becomes deposed under the key that is given for it.
+/// Stores the record of a saved object. The old object becomes deposed under the key that is given for it.
 fn put_deposing(resource: &mut Resource, given: RecordInput, object: Saved)
     requires { HasRoomForRecords 1 resource.old }
     ensures after { IsAfter (record_input_of given) (apply_of (saved (saved_of object))) (resource_of resource.old) (resource_of resource.new) }
@@ -103,8 +103,8 @@ fn put_deposing(resource: &mut Resource, given: RecordInput, object: Saved)
     put_any(resource, depose(there, deposed_key));
 }
 
-/// Records what the destroy of an object left of it, of the current object of an instance or of a deposed one. It takes no
-/// memory.
+/// Records what the destroy of an object left of it. The object is the current one of an instance or a deposed one.
+/// Takes no memory.
 pub fn record_destroy(resource: &mut Resource, id: &ObjectId, left: Left)
     ensures after { (g : RecordInputView) → g.key ≡ (object_id_of id.now).key
         → IsAfter g (destroy_of (object_id_of id.now).deposed (left_of left)) (resource_of resource.old) (resource_of resource.new) }
@@ -114,7 +114,7 @@ pub fn record_destroy(resource: &mut Resource, id: &ObjectId, left: Left)
     put_any(resource, leave(there, left));
 }
 
-/// What a destroy left of a record, where there is one.
+/// Returns what a destroy left of a record, if there is one.
 fn leave(there: Option<Record>, left: Left) -> Option<Record>
     ensures left { option_map record_of result ≡ option_and_then (left_of_record (left_of left)) (option_map record_of there) }
     ensures there { IfSome result (λ _. IsSome there) }
@@ -130,7 +130,7 @@ fn leave(there: Option<Record>, left: Left) -> Option<Record>
     }
 }
 
-/// Puts in a record, where there is one.
+/// Stores a record, if there is one.
 fn put_any(resource: &mut Resource, kept: Option<Record>)
     requires { IfSome kept (λ _. HasRoomForRecords 1 resource.old) }
     ensures put { resource_of resource.new ≡ with_any (option_map record_of kept) (resource_of resource.old) }
@@ -142,7 +142,7 @@ fn put_any(resource: &mut Resource, kept: Option<Record>)
     }
 }
 
-/// The record of an object that becomes deposed, where a key is given for it.
+/// Returns the record of an object that becomes deposed, if a key is given for it.
 fn depose(kept: Option<Record>, key: Option<String>) -> Option<Record>
     ensures deposed { option_map record_of result ≡ deposed_by (option_map string_bytes key) (option_map record_of kept) }
     ensures there { IfSome result (λ _. IsSome kept) }

@@ -1,4 +1,4 @@
-//! What came of the actions is recorded in the resources, without taking memory.
+//! Records the outcomes of actions in the resources, without taking memory.
 
 ghost use Rattle.std.specs.Prelude.{◌≡◌, ℕ, List, [], ◌∷◌, ◌++◌, IfErr, IfOk, length, map, true};
 ghost use Rattle.tf_config_address.specs.ResourceAddr.{ResourceAddrView, addr_cmp, addr_of};
@@ -15,7 +15,8 @@ use crate::record_ends::{record_apply, record_destroy, renew_record};
 use tf_config_address::ResourceAddr;
 use tf_state_data::Resource;
 
-/// Where the resource at an address stands among resources in the order of their addresses, or where it would stand.
+/// Returns the index of the resource at an address among resources in the order of their addresses, or the index where
+/// it would be inserted.
 pub(crate) fn search(resources: &[Resource], addr: &ResourceAddr) -> Result<usize, usize>
     requires { AreByAddress (map resource_of resources.now) }
     ensures found { IfOk result (IsAt (λ r. r.addr) addr_cmp (addr_of addr.now) (map resource_of resources.now)) }
@@ -24,8 +25,8 @@ pub(crate) fn search(resources: &[Resource], addr: &ResourceAddr) -> Result<usiz
     resources.binary_search_by(|resource| resource.addr().cmp(addr))
 }
 
-/// The same, looked for first where it is likely to be: at the place of another, beside it, or behind all. Addresses that
-/// are looked for in order, one after another, are so found without a search.
+/// Like [`search`], but first looks where the resource is likely to be: at a given index, next to it, or after all. So
+/// addresses that are looked up in order, one after another, are found without a search.
 pub(crate) fn search_near(
     resources: &[Resource],
     addr: &ResourceAddr,
@@ -50,7 +51,7 @@ pub(crate) fn search_near(
     }
 }
 
-/// Whether the resource at an address stands at a place.
+/// Checks whether the resource at an index has the given address.
 fn stands_at(resources: &[Resource], addr: &ResourceAddr, place: usize) -> bool
     requires { AreByAddress (map resource_of resources.now) }
     ensures { result ≡ true → IsAt (λ r. r.addr) addr_cmp (addr_of addr.now) (map resource_of resources.now) place }
@@ -61,7 +62,7 @@ fn stands_at(resources: &[Resource], addr: &ResourceAddr, place: usize) -> bool
     }
 }
 
-/// Whether an address comes behind those of all resources.
+/// Checks whether an address comes after those of all resources.
 fn is_behind(resources: &[Resource], addr: &ResourceAddr) -> bool
     requires { AreByAddress (map resource_of resources.now) }
     ensures { result ≡ true → IsGapFor (λ r. r.addr) addr_cmp (addr_of addr.now) (map resource_of resources.now) (length resources.now) }
@@ -98,7 +99,7 @@ fn destroy(resources: &mut [Resource], event: Destroy<'_>)
     }
 }
 
-/// Nothing is left of an object of which nothing is known.
+/// Drops what a destroy left of an object of which nothing is known.
 fn leave_nothing(left: Left) {
     match left {
         Left::Gone | Left::Unchanged => {}
@@ -106,7 +107,7 @@ fn leave_nothing(left: Left) {
     }
 }
 
-/// Gives each object for which nothing was planned anew what it is given.
+/// Updates the metadata of each object for which nothing was planned.
 pub(crate) fn renew_all(resources: &mut [Resource], mut metadata_updates: Vec<MetadataUpdate<'_>>)
     requires ordered { AreByAddress (map resource_of resources.old) }
     requires apart { AreApart instance_of (map as_apply (map metadata_update_of metadata_updates.items)) }
@@ -118,7 +119,7 @@ pub(crate) fn renew_all(resources: &mut [Resource], mut metadata_updates: Vec<Me
     }
 }
 
-/// Gives an object for which nothing was planned anew what it is given.
+/// Updates the metadata of an object for which nothing was planned.
 fn renew(resources: &mut [Resource], event: MetadataUpdate<'_>)
     requires ordered { AreByAddress (map resource_of resources.old) }
     ensures recorded { AreApplied (as_apply (metadata_update_of event.entry) ∷ []) (map resource_of resources.old) (map resource_of resources.new) }
@@ -130,7 +131,7 @@ fn renew(resources: &mut [Resource], event: MetadataUpdate<'_>)
     }
 }
 
-/// Records what came of each create and update, of the last first.
+/// Records the outcome of each create and update, the last one first.
 pub(crate) fn apply_all(resources: &mut [Resource], mut applies: Vec<Apply<'_>>)
     requires ordered { AreByAddress (map resource_of resources.old) }
     requires apart { AreApart instance_of (map apply_of applies.items) }
@@ -145,7 +146,7 @@ pub(crate) fn apply_all(resources: &mut [Resource], mut applies: Vec<Apply<'_>>)
     applies.destroy_empty();
 }
 
-/// Records what came of a create or an update, and tells where its resource stands, which is looked for near a place.
+/// Records the outcome of a create or an update, and returns its resource's index, which is looked up near a given one.
 fn apply(resources: &mut [Resource], event: Apply<'_>, near: usize) -> usize
     requires ordered { AreByAddress (map resource_of resources.old) }
     requires there { AreThere (addr_of event.addr.now ∷ []) (map resource_of resources.old) }

@@ -13,8 +13,8 @@ use crate::ends::{Left, Saved};
 use tf_provider_protocol::Verdict;
 use tf_state_data::Object;
 
-/// What a create saves, by the verdict on its reply, the object in the reply where that is well formed, and the object that
-/// was asked for with null for what isn't known.
+/// Returns what a create saves, by the verdict on its reply, the object in the reply if it is well formed, and the
+/// requested object with null for each unknown part.
 pub fn saved_by_create(verdict: Verdict, formed: Option<Object>, fallback: Object) -> Option<Saved>
     ensures { (schema : SchemaView) (r : Asked) (answer : Option Answer) → verdict ≡ verdict_on r answer schema
         → option_map (λ o. tree_of o.value) formed ≡ formed_in schema answer → option_map with_nulls r.object ≡ Some (tree_of fallback.value)
@@ -28,7 +28,7 @@ pub fn saved_by_create(verdict: Verdict, formed: Option<Object>, fallback: Objec
     }
 }
 
-/// What an update saves, by the verdict on its reply and the object in the reply where that is well formed.
+/// Returns what an update saves, by the verdict on its reply and the object in the reply if it is well formed.
 pub fn saved_by_update(verdict: Verdict, formed: Option<Object>) -> Option<Saved>
     ensures { (schema : SchemaView) (r : Asked) (answer : Option Answer) → verdict ≡ verdict_on r answer schema
         → option_map (λ o. tree_of o.value) formed ≡ formed_in schema answer
@@ -40,7 +40,7 @@ pub fn saved_by_update(verdict: Verdict, formed: Option<Object>) -> Option<Saved
     }
 }
 
-/// What a destroy leaves, by the verdict on its reply and the object in the reply where that is well formed.
+/// Returns what a destroy leaves, by the verdict on its reply and the object in the reply if it is well formed.
 pub fn left_by_destroy(verdict: Verdict, formed: Option<Object>) -> Left
     ensures { (schema : SchemaView) (r : Asked) (answer : Option Answer) → verdict ≡ verdict_on r answer schema
         → option_map (λ o. tree_of o.value) formed ≡ formed_in schema answer
@@ -53,7 +53,7 @@ pub fn left_by_destroy(verdict: Verdict, formed: Option<Object>) -> Left
     }
 }
 
-/// An object that is saved as tainted or not, where there is one.
+/// Returns an object as saved, tainted or not, if there is one.
 fn as_saved(object: Option<Object>, tainted: bool) -> Option<Saved>
     ensures { option_map saved_of result ≡ as_saved tainted (option_map (λ o. tree_of o.value) object) }
 {

@@ -1,4 +1,4 @@
-//! The state after an apply is put together, without taking memory.
+//! Builds the state after an apply, without taking memory.
 
 ghost use Rattle.std.specs.Prelude.{◌≡◌, ◌+◌, ◌<◌, ◌^◌, filter, map};
 ghost use Rattle.tf_state_next.specs.Events.{AreEachAboutOne, ends_in, events_of, given_in};
@@ -18,8 +18,8 @@ use crate::recording::{apply_all, destroy_all, renew_all};
 use std::collections::BTreeMap;
 use tf_state_data::{Object, Resource, State};
 
-/// The state after an apply, by what came of its actions and by the outputs. It takes no memory and has no error: for each
-/// create and update there has to be room (`draft_state`).
+/// Builds the state after an apply from the outcomes of its actions and from the outputs. Takes no memory and has no
+/// error: `draft_state` has to have reserved space for each create and update.
 pub fn state_after(
     draft: StateDraft<'_>,
     events: Events<'_>,
@@ -48,7 +48,7 @@ pub fn state_after(
     raised(prior, state)
 }
 
-/// Resources with what came of all actions. What is destroyed is recorded before what takes its place.
+/// Returns resources with the outcomes of all actions. What is destroyed is recorded before what replaces it.
 fn recorded(mut resources: Vec<Resource>, events: Events<'_>) -> Vec<Resource>
     requires ordered { AreByAddress (map resource_of resources.items) }
     requires apart { AreEachAboutOne (events_of events) }
@@ -60,8 +60,8 @@ fn recorded(mut resources: Vec<Resource>, events: Events<'_>) -> Vec<Resource>
     resources
 }
 
-/// Records what came of all actions. Of creates and updates the first is recorded first, so that records whose keys rise are put in
-/// one behind the other.
+/// Records the outcomes of all actions. Of creates and updates the first is recorded first, so records with rising keys
+/// are inserted one after another.
 fn record_all(resources: &mut [Resource], events: Events<'_>)
     requires ordered { AreByAddress (map resource_of resources.old) }
     requires apart { AreEachAboutOne (events_of events) }
@@ -80,7 +80,7 @@ fn record_all(resources: &mut [Resource], events: Events<'_>)
     apply_all(resources, applies);
 }
 
-/// Those resources of which an object is known.
+/// Returns the resources of which an object is known.
 fn present(mut resources: Vec<Resource>) -> Vec<Resource>
     ensures { map resource_of result.items ≡ filter has_records (map resource_of resources.items) }
 {
@@ -94,7 +94,7 @@ fn has_records(resource: &Resource) -> bool
     !resource.records().is_empty()
 }
 
-/// A state with the serial that follows that of the state before it, where the rest isn't the same.
+/// Returns a state with a serial one more than that of the prior state, if the rest of it differs from that state.
 fn raised(prior: &State, mut state: State) -> State
     requires same { (state_of state).serial ≡ (state_of prior.now).serial }
     requires serial { (state_of prior.now).serial + 1 < 2 ^ 32 }

@@ -9,12 +9,12 @@ use Rattle.std.proofs.Common.{ap}
 use Rattle.std.proofs.lemmas.Slice.Eq.{bytes_eq-Decides, slice_eq-Decides}
 use Rattle.tf_value_data.specs.Tree.{Tree, null, boolean, whole, text, list, map, set, unknown, Items, no_items, item, Entries, no_entries, entry, same, same_entries, compared_items, tree_of}
 
--- where each of two tests decides its fact, both together decide both facts
+-- if each of two tests decides its fact, both together decide both facts
 both : {P Q R : Type 0} (b c : Bool) → Decides b P → Decides c Q → (P → Q → R) → (R → P × Q) → Decides (b && c) R
 both true c p q make parts = (λ e. make (p.0 refl) (q.0 e), λ r. q.1 (parts r).1)
 both false c p q make parts = (λ e. absurd (cc), λ r. p.1 (parts r).0)
 
--- two sets are the same where their texts are
+-- the test of two sets decides whether their texts are equal
 pub same_texts_Decides : (ss ts : List (List ℕ)) → Decides (pointwise bytes_eq ss ts) (ss ≡ ts)
 same_texts_Decides ss ts = slice_eq-Decides bytes_eq-Decides ss ts (pointwise bytes_eq ss ts) refl
 

@@ -3,7 +3,7 @@ use Rattle.std.specs.Prelude.{Bool, true, false}
 use Rattle.tf_value_data.specs.Parts.{has_only, items_have_only, entries_have_only}
 use Rattle.tf_value_data.specs.Tree.{Tree, Items, Entries}
 
--- A value is known where no part of it is unknown; a set has no such part.
+-- A value is known if no part of it is unknown. A set has no unknown part.
 abbrev pub known : Tree → Bool
 known t = has_only false true t
 

@@ -27,7 +27,7 @@ abbrev mutual
   weight_of_entries no_entries = 0
   weight_of_entries (entry k t es) = (length k + weight t) + weight_of_entries es
 
--- A value's depth is the number of lists, maps and sets that stand in one another.
+-- A value's depth is how deep lists, maps and sets are nested in it.
 abbrev mutual
   pub depth : Tree → ℕ
   depth null = 0
@@ -47,22 +47,22 @@ abbrev mutual
   depth_of_entries no_entries = 0
   depth_of_entries (entry k t es) = max (depth t) (depth_of_entries es)
 
--- the greatest weight of a value that is taken from outside
+-- the greatest weight of a value from outside
 abbrev pub max_weight : ℕ
 max_weight = 1000000
 
--- the greatest depth of a value that is taken from outside
+-- the greatest depth of a value from outside
 abbrev pub max_depth : ℕ
 max_depth = 32
 
--- A value is within the limits where neither its weight nor its depth is above the greatest.
+-- A value is within the limits if neither its weight nor its depth is above the greatest.
 abbrev pub IsWithinLimits : Tree → Type 0
 IsWithinLimits t = (weight t ≤ max_weight) × (depth t ≤ max_depth)
 
--- the same as a test
+-- `IsWithinLimits` as a test
 abbrev pub is_within : Tree → Bool
 is_within t = nat_le (weight t) max_weight && nat_le (depth t) max_depth
 
--- A value is too large where its weight or its depth is above the greatest.
+-- A value is too large if its weight or its depth is above the greatest.
 abbrev pub IsTooLarge : Tree → Type 0
 IsTooLarge t = (max_weight < weight t) ⊎ (max_depth < depth t)

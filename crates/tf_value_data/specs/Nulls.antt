@@ -1,4 +1,4 @@
--- Values with null for what isn't known.
+-- Values with null for what is unknown.
 use Rattle.std.specs.Prelude.{true, false}
 use Rattle.tf_value_data.specs.Parts.{rewritten, entries_rewritten}
 use Rattle.tf_value_data.specs.Tree.{Tree, Entries}

@@ -2,7 +2,7 @@
 use Rattle.std.specs.Prelude.{Bool, true, ◌&&◌, if◌then◌else◌}
 use Rattle.tf_value_data.specs.Tree.{Tree, null, list, map, set, unknown, Items, no_items, item, Entries, no_entries, entry, text_items}
 
--- Whether an unknown part stands in a value only where one may, and a set only where one may.
+-- Whether a value has unknown parts only if `unknowns`, and sets only if `sets`.
 abbrev mutual
   pub has_only : Bool → Bool → Tree → Bool
   has_only unknowns sets (list ts) = items_have_only unknowns sets ts
@@ -19,8 +19,8 @@ abbrev mutual
   entries_have_only unknowns sets no_entries = true
   entries_have_only unknowns sets (entry k t es) = has_only unknowns sets t && entries_have_only unknowns sets es
 
--- A value with null in place of each unknown part, with the list of its texts, in byte order, in place of each set, with
--- both or with neither.
+-- A value with null in place of each unknown part if `nulls`, and with the list of its texts, in byte order, in place
+-- of each set if `lists`.
 abbrev mutual
   pub rewritten : Bool → Bool → Tree → Tree
   rewritten nulls lists (list ts) = list (items_rewritten nulls lists ts)

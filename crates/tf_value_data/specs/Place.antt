@@ -2,19 +2,19 @@
 use Rattle.std.specs.Prelude.{ℕ, List}
 use Rattle.tf_value_data.specs.Tree.{Tree, list, map, Items, no_items, item, Entries, no_entries, entry}
 
--- A place within a value: the whole of it, a place within an item of a list, or a place within the value at a
--- key of a map, with what stands before and after.
+-- A place within a value: the whole of it, a place within an item of a list, or a place within the value at a key of
+-- a map, with the items or entries before and after it.
 pub data Place : Type 0 where
   whole_value : Place
   in_item : Items → Place → Items → Place
   at_key : Entries → List ℕ → Place → Entries → Place
 
--- the items of a list, with one between those before and those after
+-- the items of a list: those before, one, and those after
 abbrev pub items_around : Items → Tree → Items → Items
 items_around no_items t after = item t after
 items_around (item u before) t after = item u (items_around before t after)
 
--- the entries of a map, with one between those before and those after
+-- the entries of a map: those before, one, and those after
 abbrev pub entries_around : Entries → List ℕ → Tree → Entries → Entries
 entries_around no_entries k t after = entry k t after
 entries_around (entry l u before) k t after = entry l u (entries_around before k t after)

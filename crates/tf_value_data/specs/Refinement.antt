@@ -2,8 +2,8 @@
 use Rattle.std.specs.Prelude.{◌≡◌, ⊤, Bool, true}
 use Rattle.tf_value_data.specs.Tree.{Tree, null, boolean, whole, text, list, map, set, unknown, Items, no_items, item, Entries, no_entries, entry, compared}
 
--- One value refines to another where it is unknown, or where both have the same shape (as many items, the
--- same keys), their parts refine one by one, and scalars and sets are equal.
+-- One value refines to another if it is unknown, or if both have the same shape (as many items, the same keys), their
+-- parts refine one by one, and scalars and sets are equal.
 abbrev mutual
   pub Refines : Tree → Tree → Type 0
   Refines null null = ⊤
@@ -26,6 +26,6 @@ abbrev mutual
   RefinesEntries (entry k t ts) (entry l u us) = (k ≡ l) × Refines t u × RefinesEntries ts us
   RefinesEntries _ _ = ⊥
 
--- The same as a test.
+-- `Refines` as a test.
 abbrev pub refined : Tree → Tree → Bool
 refined t u = compared true t u

@@ -1,4 +1,4 @@
--- That a value may be stored has one proof at most, so that it can be part of a type.
+-- `MayBeStored` and `IsTable` have at most one proof each, so they can be part of a type.
 use Rattle.std.specs.Prelude.{◌≡◌, true}
 use Rattle.std.specs.Cmp.Lexicographic.{slice_cmp}
 use Rattle.std.specs.List.Sorted.{IsStrictlySortedBy-prop}

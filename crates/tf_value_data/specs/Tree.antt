@@ -1,4 +1,4 @@
--- What a value is, as plain data: no pointers, no capacities.
+-- Values as plain data: no pointers, no capacities.
 use Rattle.std.specs.Prelude.{ℕ, ℤ, Bool, true, false, if◌then◌else◌, ◌&&◌, ◌||◌, Option, Some, None, List, [], ◌∷◌, map as each, String, string_bytes, FitsSigned, ⊤}
 use Rattle.std.specs.Ordering.{int_eq, nat_cmp, match_ordering}
 use Rattle.std.specs.Cmp.Lexicographic.{pointwise, slice_cmp}
@@ -10,7 +10,7 @@ use Rattle.std.specs.declared.alloc.Global.{Global}
 use Rattle.tf_value_data.specs.declared.value.Value.{Value, fold-Value}
 use Rattle.tf_value_data.specs.declared.value.Value.TheOpen.{Value-F}
 
--- A value: a scalar, a list of values, a map from texts to values, a set of texts, or one that isn't known yet.
+-- A value: a scalar, a list of values, a map from texts to values, a set of texts, or an unknown value.
 mutual
   pub data Tree : Type 0 where
     null : Tree
@@ -53,7 +53,7 @@ level (Value-F.Map m) = map (entries_of m.entries)
 level (Value-F.Set s) = set (each string_bytes s.keys)
 level Value-F.Unknown = unknown
 
--- the tree that a `Value` stands for
+-- the tree that a `Value` represents
 abbrev pub tree_of : Value → Tree
 tree_of = fold-Value Tree level
 
@@ -74,12 +74,12 @@ abbrev pub text_items : List (List ℕ) → Items
 text_items [] = no_items
 text_items (s ∷ ss) = item (text s) (text_items ss)
 
--- what stands at a key
+-- the value at a key
 abbrev pub get : List ℕ → Entries → Option Tree
 get k no_entries = None
 get k (entry l t es) = if bytes_eq k l then Some t else get k es
 
--- what stands at a key of a value; only a map has keys
+-- the value at a key of a value; only a map has keys
 abbrev pub part_at : List ℕ → Tree → Option Tree
 part_at k (map es) = get k es
 part_at k _ = None
@@ -94,7 +94,7 @@ abbrev pub keys_of : Entries → List (List ℕ)
 keys_of no_entries = []
 keys_of (entry k t es) = k ∷ keys_of es
 
--- A tree is held by a `Value` where each whole number in it is one of 64 bits with a sign.
+-- A `Value` can hold a tree if each whole number in it is one of 64 bits with a sign.
 abbrev mutual
   pub IsHeld : Tree → Type 0
   IsHeld (whole z) = FitsSigned w64 z
@@ -110,7 +110,7 @@ abbrev mutual
   AreHeldEntries no_entries = ⊤
   AreHeldEntries (entry k t es) = IsHeld t × AreHeldEntries es
 
--- A tree is sorted where the keys of each map and the texts of each set in it stand strictly in byte order.
+-- A tree is sorted if the keys of each map and the texts of each set in it are strictly in byte order.
 abbrev mutual
   pub IsSorted : Tree → Type 0
   IsSorted (list ts) = AreSorted ts
@@ -130,8 +130,8 @@ abbrev pub is_unknown : Tree → Bool
 is_unknown unknown = true
 is_unknown _ = false
 
--- Whether two values have the same shape (as many items, the same keys), and their scalars and sets are equal. An unknown
--- part of the first one stands for any part of the second one where `for_any`, else for an unknown one.
+-- Whether two values have the same shape (as many items, the same keys) and equal scalars and sets. An unknown part
+-- of the first one matches any part of the second one if `for_any`, else only an unknown one.
 abbrev mutual
   pub compared : Bool → Tree → Tree → Bool
   compared for_any null null = true
@@ -154,7 +154,7 @@ abbrev mutual
   compared_entries for_any (entry k t ts) (entry l u us) = bytes_eq k l && (compared for_any t u && compared_entries for_any ts us)
   compared_entries for_any _ _ = false
 
--- Two values are the same where their trees are.
+-- Two values are the same if their trees are.
 abbrev pub same : Tree → Tree → Bool
 same t u = compared false t u
 

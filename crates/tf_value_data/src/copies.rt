@@ -15,7 +15,7 @@ impl Clone for Value {
     }
 }
 
-/// An equal value. Refused only where there is no memory.
+/// Returns an equal value. Fails only if memory runs out.
 pub fn copy(value: &Value) -> Result<Value, AllocError>
     ensures { IfOk result (λ v. tree_of v ≡ tree_of value.now) }
 {
@@ -44,7 +44,7 @@ pub fn copy(value: &Value) -> Result<Value, AllocError>
     }
 }
 
-// The same texts.
+// Copies the texts of a set.
 fn copy_texts(texts: &BTreeSet<String>) -> Result<BTreeSet<String>, AllocError>
     ensures { IfOk result (λ s. texts_view s.keys ≡ texts_view texts.now.keys) }
 {

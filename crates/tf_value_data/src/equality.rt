@@ -7,7 +7,7 @@ ghost use Rattle.tf_value_data.specs.Equality.{same_values, same_values_part};
 use crate::refinement::refines;
 use crate::value::Value;
 
-/// Two values are equal exactly where they are the same tree; an unknown value equals an unknown one.
+/// Two values are equal exactly if they are the same tree. Two unknown values are equal.
 impl PartialEq for Value {
     ghost eq = { on tree_of same };
 

@@ -11,14 +11,14 @@ const SETS: Parts = Parts {
     sets: true,
 };
 
-/// Whether a value has no unknown part.
+/// Returns whether a value has no unknown part.
 pub fn is_known(value: &Value) -> bool
     ensures { result ≡ known (tree_of value.now) }
 {
     has_only(value, SETS)
 }
 
-/// Whether no value of a map's entries has an unknown part.
+/// Returns whether no value of a map's entries has an unknown part.
 pub fn entries_are_known(entries: &BTreeMap<String, Value>) -> bool
     ensures { result ≡ known_entries (entries_view entries.now.entries) }
 {

@@ -15,29 +15,29 @@ pub fn known_values_stay()
     ensures { KnownStays }
 {}
 
-/// Replacing a part of a value by one that it refines to gives a value that the whole refines to.
+/// If one value refines to another, a whole with the one as a part refines to that whole with the other as the part.
 pub fn parts_refine()
     ensures { PartsRefine }
 {}
 
-/// `==` answers whether two values are the same tree.
+/// `==` decides whether two values are the same tree.
 pub fn equality_is_of_trees()
     ensures { SameIsEquality }
 {}
 
-/// A value is beyond the limits exactly where it isn't within them.
+/// A value is beyond the limits exactly if it isn't within them.
 pub fn limits_decide()
     ensures { LimitsDecide }
 {}
 
-/// What was put at a key of a map stands there, and the other keys keep what stood at them.
+/// A put at a key of a map is found there, and the other keys keep their values.
 pub fn puts_are_found()
     ensures found { PutIsFound }
     ensures others { PutLeavesOthers }
 {}
 
-/// With null for what is unknown a value is known, and it is what the value may turn out to be; what was known stays,
-/// and neither weight nor depth changes.
+/// With null for its unknown parts a value is known, and the value refines to it. A known value stays the same, and
+/// neither weight nor depth changes.
 pub fn nulls_stand_for_unknowns()
     ensures known { NullsAreKnown }
     ensures stays { KnownKeepsItself }
@@ -45,9 +45,9 @@ pub fn nulls_stand_for_unknowns()
     ensures measures { NullsMeasureTheSame }
 {}
 
-/// With a list for each set a value has no set; one without sets stays. As much is known of it, its weight and depth are
-/// the same, it turns out to be what the value turns out to be with a list for each set, and it may be planned for an
-/// attribute where the value is within the limits, and stored where all of it is known too.
+/// With a list for each set a value has no set, and a value without sets stays the same. Its weight and depth stay
+/// the same, and it is known exactly if the value was. If a value refines to another one, so do both with lists for
+/// sets. A value within the limits may then be planned for an attribute, and stored if it is also known.
 pub fn lists_stand_for_sets()
     ensures no_set { ListsAreNoSets }
     ensures stays { NoSetKeepsItself }
@@ -58,15 +58,15 @@ pub fn lists_stand_for_sets()
     ensures stored { ListsMayBeStored }
 {}
 
-/// A value may be stored exactly where `may_be_stored` says so, and one that may be planned with null for what is
-/// unknown. A table of such values stays one where one more is put in.
+/// `may_be_stored` decides whether a value may be stored. A value that may be planned may be stored with null for its
+/// unknown parts. A table stays one if a value that may be stored is put in.
 pub fn stored_values_are_known()
     ensures tested { StoredIsTested }
     ensures nulls { NullsMayBeStored }
     ensures tables { PutKeepsTable }
 {}
 
-/// What has a text among texts is known.
+/// A value with a scalar text is known.
 pub fn scalars_are_known()
     ensures { ScalarIsKnown }
 {}

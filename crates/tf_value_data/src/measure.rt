@@ -6,13 +6,13 @@ ghost use Rattle.tf_value_data.specs.Measure.{weight as weight_of, weight_of_tex
 use crate::value::Value;
 use std::collections::{BTreeMap, BTreeSet};
 
-/// The greatest weight of a value that is taken from outside.
+/// The greatest weight of a value from outside.
 pub const MAX_WEIGHT: u64 = 1_000_000;
 
-/// The greatest depth of a value that is taken from outside.
+/// The greatest depth of a value from outside.
 pub const MAX_DEPTH: u32 = 32;
 
-/// Whether neither a value's weight nor its depth is above the greatest.
+/// Returns whether neither a value's weight nor its depth is above the greatest.
 pub fn is_within_limits(value: &Value) -> bool
     ensures exact { IsTrue result ↔ IsWithinLimits (tree_of value.now) }
     ensures held { IsHeld (tree_of value.now) }
@@ -21,9 +21,9 @@ pub fn is_within_limits(value: &Value) -> bool
     weight(value) <= MAX_WEIGHT && depth(value) <= MAX_DEPTH
 }
 
-/// How much a value weighs: one for itself, the bytes of its texts and keys, and the weights of its parts;
-/// 2^64 - 1 where that is more. As it sees each part, it also says what holds of each value: its numbers are of 64
-/// bits, and the keys of its maps and the texts of its sets stand in byte order.
+/// Returns a value's weight: one for itself, the bytes of its texts and keys, and the weights of its parts; at most
+/// 2^64 - 1. The walk over all parts also shows what holds of each value: its numbers are of 64 bits, and the keys of
+/// its maps and the texts of its sets are in byte order.
 #[cycle(weight)]
 pub fn weight(value: &Value) -> u64
     ensures total { result ≡ min (weight_of (tree_of value.now)) (2 ^ 64 - 1) }
@@ -90,8 +90,8 @@ fn weigh_texts(texts: &BTreeSet<String>) -> u64
     total
 }
 
-/// How many lists, maps and sets stand in one another: 0 for a scalar and an unknown value, 1 for a set and for an
-/// empty list or map, else one more than the deepest part's; 2^32 - 1 where that is more.
+/// Returns how deep lists, maps and sets are nested: 0 for a scalar and an unknown value, 1 for a set and for an
+/// empty list or map, else one more than the deepest part; at most 2^32 - 1.
 #[cycle(depth)]
 pub fn depth(value: &Value) -> u32
     ensures { result ≡ min (depth_of (tree_of value.now)) (2 ^ 32 - 1) }

@@ -1,4 +1,4 @@
-//! Values with null for what isn't known.
+//! Values with null for what is unknown.
 
 ghost use Rattle.std.specs.Prelude.{◌≡◌, true, false};
 ghost use Rattle.tf_value_data.specs.Nulls.{with_nulls, entries_with_nulls};
@@ -8,7 +8,7 @@ ghost use Rattle.tf_value_data.specs.Tree.{tree_of, items_view, entries_view};
 use crate::value::{Entries, Value};
 use std::mem;
 
-/// The value with null in place of each part that isn't known. It takes no memory.
+/// Replaces each unknown part of a value by null. Allocates nothing.
 #[cycle(nulls)]
 pub fn with_nulls(value: Value) -> Value
     ensures { tree_of result ≡ with_nulls (tree_of value) }
@@ -36,7 +36,7 @@ fn items_with_nulls(mut items: Vec<Value>) -> Vec<Value>
     items
 }
 
-/// The entries stay where they are, and each value is replaced.
+/// Replaces each value and keeps the entries in place.
 #[cycle(nulls)]
 fn entries_with_nulls(mut entries: Entries) -> Entries
     ensures { entries_view result.entries ≡ entries_with_nulls (entries_view entries.entries) }

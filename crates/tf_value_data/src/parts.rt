@@ -6,14 +6,14 @@ ghost use Rattle.tf_value_data.specs.Tree.{tree_of, items_view, entries_view};
 
 use crate::value::{Entries, Value};
 
-/// Which parts of a value are meant: those that are unknown, those that are sets, both or neither.
+/// Which parts of a value are meant: unknown parts, sets, both or neither.
 #[derive(Clone, Copy)]
 pub(crate) struct Parts {
     pub(crate) unknowns: bool,
     pub(crate) sets: bool,
 }
 
-/// Whether an unknown part or a set stands in a value only where `allowed` names such parts.
+/// Returns whether a value has unknown parts only if `allowed` names these, and sets only if it names those.
 #[cycle(only)]
 pub(crate) fn has_only(value: &Value, allowed: Parts) -> bool
     ensures { result ≡ has_only allowed.unknowns allowed.sets (tree_of value.now) }
@@ -39,7 +39,7 @@ fn items_have_only(items: &Vec<Value>, allowed: Parts) -> bool
     true
 }
 
-/// The same of a map's entries.
+/// Like `has_only`, for each value of a map's entries.
 #[cycle(only)]
 pub(crate) fn entries_have_only(entries: &Entries, allowed: Parts) -> bool
     ensures { result ≡ entries_have_only allowed.unknowns allowed.sets (entries_view entries.now.entries) }

@@ -5,8 +5,8 @@ ghost use Rattle.tf_value_data.specs.Refinement.{Refines, RefinesItems, RefinesE
 use crate::value::Value;
 use std::collections::{BTreeMap, BTreeSet};
 
-/// Whether a value may turn out to be the other one, once more is known: it is unknown, or both have the same
-/// shape (as many items, the same keys), their parts refine one by one, and scalars and sets are equal.
+/// Returns whether a value refines to another one. It does if it is unknown, or if both have the same shape (as many
+/// items, the same keys), their parts refine one by one, and scalars and sets are equal.
 #[cycle(refines)]
 pub fn refines(value: &Value, other: &Value) -> bool
     ensures { IsTrue result ↔ Refines (tree_of value.now) (tree_of other.now) }
@@ -54,7 +54,7 @@ fn entries_refine(entries: &BTreeMap<String, Value>, others: &BTreeMap<String, V
     true
 }
 
-// Whether two sets have the same texts.
+// Returns whether two sets have the same texts.
 fn same_texts(texts: &BTreeSet<String>, others: &BTreeSet<String>) -> bool
     ensures { IsTrue result ↔ (texts_view texts.now.keys ≡ texts_view others.now.keys) }
 {

@@ -7,8 +7,8 @@ ghost use Rattle.tf_value_data.specs.Tree.{tree_of};
 use crate::value::Value;
 use std::alloc::{AllocError, Global};
 
-/// The text that a value counts as among texts: a text itself, a whole number in decimal, `true` or `false`; `None`
-/// for null, lists, maps, sets and what isn't known. Refused only where there is no memory.
+/// Returns the text of a scalar: a text itself, a whole number in decimal, `true` or `false`. Returns `None` for
+/// null, lists, maps, sets and unknown values. Fails only if memory runs out.
 pub fn scalar_text(alloc: Global, value: &Value) -> Result<Option<String>, AllocError>
     ensures { IfOk result (λ o. option_map string_bytes o ≡ scalar_text (tree_of value.now)) }
 {

@@ -11,7 +11,7 @@ use crate::value::{Entries, Value};
 use std::alloc::{AllocError, Global};
 use std::collections::{BTreeMap, BTreeSet};
 
-/// Whether neither a value nor a part of it is a set.
+/// Returns whether neither a value nor a part of it is a set.
 pub fn has_no_set(value: &Value) -> bool
     ensures { result ≡ has_no_set (tree_of value.now) }
 {
@@ -22,8 +22,8 @@ pub fn has_no_set(value: &Value) -> bool
     has_only(value, allowed)
 }
 
-/// The value with the list of its texts, in byte order, in place of each set: what an attribute of any kind has of
-/// it. Refused only where there is no memory.
+/// Replaces each set in a value by the list of its texts, in byte order, which is how an attribute of any kind stores
+/// it. Fails only if memory runs out.
 #[cycle(lists)]
 pub fn with_lists(alloc: Global, value: Value) -> Result<Value, AllocError>
     ensures { IfOk result (λ v. tree_of v ≡ with_lists (tree_of value)) }
@@ -62,7 +62,7 @@ fn entries_with_lists(alloc: Global, entries: Entries) -> Result<Entries, AllocE
     Ok(rewrites)
 }
 
-// The texts of a set, as values.
+// Wraps the texts of a set as values.
 fn text_values(alloc: Global, texts: BTreeSet<String>) -> Result<Vec<Value>, AllocError>
     ensures { IfOk result (λ v. v.items ≡ each Text texts.keys) }
 {

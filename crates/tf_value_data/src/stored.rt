@@ -11,7 +11,7 @@ use crate::sets::has_no_set;
 use crate::value::Value;
 use std::collections::BTreeMap;
 
-/// Whether a value may be stored: all of it is known, it is within the limits, and there is no set in it.
+/// Returns whether a value may be stored: all of it is known, it is within the limits, and it has no set.
 pub fn may_be_stored(value: &Value) -> bool
     ensures exact { result ≡ may_be_stored (tree_of value.now) }
     ensures stored { OnTrue result (MayBeStored (tree_of value.now)) }
@@ -20,7 +20,7 @@ pub fn may_be_stored(value: &Value) -> bool
     within && is_known(value) && has_no_set(value)
 }
 
-/// Whether each value of a map's entries may be stored.
+/// Returns whether each value of a map's entries may be stored.
 #[tactic(auto, using(crate::proofs::Ordered::keys_sorted))]
 pub fn each_may_be_stored(entries: &BTreeMap<String, Value>) -> bool
     ensures exact { result ≡ each_may_be_stored (entries_view entries.now.entries) }

@@ -2,9 +2,9 @@ ghost use Rattle.std.specs.Prelude.{◌≡◌, option_map};
 
 use std::collections::{BTreeMap, BTreeSet};
 
-/// A value of a configuration, a plan or a state, which may hold parts that aren't known yet.
+/// A value of a configuration, a plan or a state, which may have unknown parts.
 ///
-/// Contracts see it as the plain tree that it stands for, so that no clause speaks of pointers or capacities.
+/// Contracts see it as the plain tree that it represents, so that no clause speaks of pointers or capacities.
 #[derive(Debug, Drop)]
 pub enum Value {
     /// No value: an argument that isn't set.
@@ -25,13 +25,14 @@ pub enum Value {
     Unknown,
 }
 
-/// Values by key, as a map holds them.
+/// The values of a map by key.
 pub(crate) type Entries = BTreeMap<String, Value>;
 
 impl Value {
     ghost use Rattle.tf_value_data.specs.Tree.{tree_of, part_at};
 
-    /// What stands at a key of a map; `None` where the key isn't there, and for a value that isn't a map.
+    /// Returns the value at a key of a map. Returns `None` if the map lacks the key, and for a value that isn't a
+    /// map.
     pub fn get(&self, key: &str) -> Option<&Value>
         ensures { option_map (λ v. tree_of v.now) result ≡ part_at key.now (tree_of self.now) }
     {
@@ -44,7 +45,7 @@ impl Value {
 
 ghost use Rattle.tf_value_data.specs.Tree.{tree_of, get, entries_view};
 
-/// What stands at a key of a map's entries; `None` where the key isn't there.
+/// Returns the value at a key of a map's entries, or `None` if they lack the key.
 pub fn find<'a>(entries: &'a BTreeMap<String, Value>, key: &str) -> Option<&'a Value>
     ensures { option_map (λ v. tree_of v.now) result ≡ get key.now (entries_view entries.now.entries) }
 {

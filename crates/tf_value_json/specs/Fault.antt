@@ -1,4 +1,4 @@
--- What is shown of why a value and its JSON form couldn't be had from one another.
+-- The text of each fault.
 use Rattle.std.specs.Prelude.{ℕ, List, codes}
 use Rattle.tf_value_json.specs.declared.fault.JsonFault.{JsonFault}
 use Rattle.tf_value_json.specs.declared.fault.JsonFault.TheVariants.{UnknownInside, NotWhole, TooLarge, OutOfMemory}

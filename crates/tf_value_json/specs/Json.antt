@@ -9,15 +9,15 @@ use Rattle.tf_value_data.specs.Measure.{IsWithinLimits, IsTooLarge}
 use Rattle.tf_value_json.specs.declared.fault.JsonFault.{JsonFault}
 use Rattle.tf_value_json.specs.declared.fault.JsonFault.TheVariants.{UnknownInside, NotWhole, TooLarge, OutOfMemory}
 
--- strings are texts, one by one
+-- strings are the given texts, one by one
 abbrev pub AreTexts : List (List ℕ) → json.Items → Type 0
 AreTexts [] json.no_items = ⊤
 AreTexts (s ∷ ss) (json.item (json.string t) ds) = (s ≡ t) × AreTexts ss ds
 AreTexts _ _ = ⊥
 
--- A JSON tree is the form of a value where both have the same shape: the same scalars, whole numbers of 64 bits
--- as numbers without a fraction or an exponent, lists as arrays, sets as the arrays of their texts in byte order,
--- and maps as objects of the same keys. A value with an unknown part has no form.
+-- A JSON tree is the form of a value if both have the same shape: the same scalars, whole numbers of 64 bits as
+-- numbers without a fraction or an exponent, lists as arrays, sets as the arrays of their texts in byte order, and
+-- maps as objects of the same keys. A value with an unknown part has no form.
 abbrev mutual
   pub IsJson : Tree → json.Data → Type 0
   IsJson null json.null = ⊤
@@ -44,7 +44,7 @@ abbrev pub texts_data : List (List ℕ) → json.Items
 texts_data [] = json.no_items
 texts_data (s ∷ ss) = json.item (json.string s) (texts_data ss)
 
--- the JSON form of a known value; null stands where a part is unknown
+-- the JSON form of a known value, with null for a part that is unknown
 abbrev mutual
   pub value_data : Tree → json.Data
   value_data null = json.null
@@ -64,7 +64,7 @@ abbrev mutual
   entries_data no_entries = json.no_members
   entries_data (entry k t es) = json.member k (value_data t) (entries_data es)
 
--- the whole number of 64 bits that a JSON number is held as
+-- the whole number of 64 bits that a JSON number is held as, or unknown
 abbrev pub whole_from : json.Num → Tree
 whole_from (json.unsigned n) = if nat_lt n (2 ^ 63) then whole (pos n) else unknown
 whole_from (json.negative (pos n)) = unknown
@@ -89,18 +89,18 @@ abbrev mutual
   entries_from json.no_members = no_entries
   entries_from (json.member k d ms) = entry k (tree_from d) (entries_from ms)
 
--- the value without a set that a JSON tree is the form of; none where a number in it isn't whole
+-- the value without a set whose form a JSON tree is; `None` if a number in it isn't whole
 abbrev pub value_from : json.Data → Option Tree
 value_from d = if known (tree_from d) then Some (tree_from d) else None
 
--- Why a value isn't written as JSON: a part of it is unknown; or it is known, and there was no memory.
+-- Why a value isn't written as JSON: a part of it is unknown; or it is known, and memory ran out.
 abbrev pub IsUnwritten : Tree → JsonFault → Type 0
 IsUnwritten t UnknownInside = known t ≡ false
 IsUnwritten t OutOfMemory = known t ≡ true
 IsUnwritten t _ = ⊥
 
--- Why a JSON tree isn't read as a value: it is no value's form; or it is the form of a value that is too large;
--- or it is the form of a value within the limits, and there was no memory.
+-- Why a JSON tree isn't read as a value: it is no value's form; or it is the form of a value that is too large; or it
+-- is the form of a value within the limits, and memory ran out.
 abbrev pub IsUnread : json.Data → JsonFault → Type 0
 IsUnread d NotWhole = value_from d ≡ None
 IsUnread d TooLarge = (t : Tree) × (value_from d ≡ Some t) × IsTooLarge t

@@ -1,4 +1,4 @@
--- What holds of values and their JSON forms, whatever they are.
+-- Laws of all values and their JSON forms.
 use Rattle.std.specs.Prelude.{◌≡◌, ◌↔◌, true, Some, None}
 use Rattle.serde_json.specs.Data.{Data}
 use Rattle.tf_value_data.specs.Tree.{Tree, IsHeld}
@@ -14,7 +14,7 @@ FormIsOne = (t : Tree) (d e : Data) → IsJson t d → IsJson t e → d ≡ e
 abbrev pub ValueOfFormIsOne : Type 0
 ValueOfFormIsOne = (t u : Tree) (d : Data) → has_no_set t ≡ true → has_no_set u ≡ true → IsJson t d → IsJson u d → t ≡ u
 
--- What has a JSON form is known.
+-- A value with a JSON form is known.
 abbrev pub FormedIsKnown : Type 0
 FormedIsKnown = (t : Tree) (d : Data) → IsJson t d → known t ≡ true
 
@@ -22,11 +22,11 @@ FormedIsKnown = (t : Tree) (d : Data) → IsJson t d → known t ≡ true
 abbrev pub KnownHasForm : Type 0
 KnownHasForm = (t : Tree) → IsHeld t → known t ≡ true → IsJson t (value_data t)
 
--- `value_from` answers the value without sets that a JSON tree is the form of.
+-- `value_from` returns the value without sets whose form a JSON tree is.
 abbrev pub ReadsForms : Type 0
 ReadsForms = (t : Tree) (d : Data) → (value_from d ≡ Some t) ↔ (IsJson t d × (has_no_set t ≡ true))
 
--- `value_from` answers none exactly where a JSON tree is no value's form.
+-- `value_from` returns `None` exactly if a JSON tree is no value's form.
 abbrev pub ReadsFormsAlone : Type 0
 ReadsFormsAlone = (d : Data) → (value_from d ≡ None) ↔ ((t : Tree) → ¬ IsJson t d)
 

@@ -1,4 +1,4 @@
--- Trees that their texts give back.
+-- Trees that can be read back from their texts.
 use Rattle.std.specs.Prelude.{◌≡◌, ℕ, ◌^◌, ◌<◌, ◌≤◌, pos, negsuc, List, Some, ⊤}
 use Rattle.std.specs.Cmp.Lexicographic.{slice_cmp}
 use Rattle.std.specs.Ordering.{nat_cmp}
@@ -12,7 +12,7 @@ abbrev pub AreAbove : List ℕ → Members → Type 0
 AreAbove k no_members = ⊤
 AreAbove k (member l d ms) = (slice_cmp nat_cmp k l ≡ Less) × AreAbove k ms
 
--- A tree is orderly where its numbers are of this kind, and the keys of each object stand strictly in byte order.
+-- A tree is orderly if its numbers satisfy `P`, and the keys of each object are strictly in byte order.
 abbrev mutual
   pub IsOrderly : (Num → Type 0) → Data → Type 0
   IsOrderly P (number n) = P n
@@ -35,7 +35,7 @@ IsWhole (negative (pos n)) = ⊥
 IsWhole (negative (negsuc n)) = n < 2 ^ 63
 IsWhole (float x) = ⊥
 
--- A tree is plain where it is orderly and its numbers are whole numbers of 64 bits.
+-- A tree is plain if it is orderly and its numbers are whole numbers of 64 bits.
 abbrev pub IsPlain : Data → Type 0
 IsPlain d = IsOrderly IsWhole d
 
@@ -48,14 +48,14 @@ ArePlainMembers ms = AreOrderlyMembers IsWhole ms
 abbrev pub IsAny : Num → Type 0
 IsAny n = ⊤
 
--- A tree is sorted where it is orderly, whatever its numbers.
+-- A tree is sorted if it is orderly, whatever its numbers.
 abbrev pub IsSorted : Data → Type 0
 IsSorted d = IsOrderly IsAny d
 
--- The text of a plain tree that nests no deeper than a reader goes is read as that tree.
+-- The text of a plain tree reads as that tree, if the tree nests no deeper than the reader allows.
 abbrev pub TextReadsBack : Type 0
 TextReadsBack = (d : Data) → IsPlain d → depth d ≤ max_depth → read (text_of d) ≡ Some d
 
--- A tree that a text is read as is sorted.
+-- If a text reads as a tree, the tree is sorted.
 abbrev pub ReadIsSorted : Type 0
 ReadIsSorted = (text : List ℕ) (d : Data) → read text ≡ Some d → IsSorted d

@@ -6,16 +6,16 @@ use std::alloc::AllocError;
 use std::error::Error;
 use std::fmt;
 
-/// Why a value and its JSON form couldn't be had from one another.
+/// Why a value has no JSON form, or a JSON tree is no value.
 #[derive(Debug, Clone, Copy, PartialEq, Eq)]
 pub enum JsonFault {
     /// A value with an unknown part has no JSON form.
     UnknownInside,
-    /// A number of the JSON tree isn't held as a whole number of 64 bits with a sign.
+    /// A number in the JSON tree isn't held as a whole number of 64 bits with a sign.
     NotWhole,
     /// The JSON tree is the form of a value beyond the limits of weight or depth.
     TooLarge,
-    /// There was no memory.
+    /// Memory ran out.
     OutOfMemory,
 }
 

@@ -1,6 +1,6 @@
 #![tactic(auto)]
 
-//! Values as JSON: the form that each has, what is read of it, and the one text of whatever is sent.
+//! Values as JSON: the form of each value, how it is read, and the one text of a value that is sent.
 
 mod fault;
 mod laws;

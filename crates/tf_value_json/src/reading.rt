@@ -12,12 +12,15 @@ use std::alloc::{AllocError, Global};
 use std::collections::BTreeMap;
 use tf_value_data::{MAX_DEPTH, MAX_WEIGHT, Value};
 
-/// The value without sets that a JSON tree is the form of. Refused `NotWhole` exactly where it is no value's form, since a
-/// number in it isn't held as a whole number of 64 bits with a sign (`1.0`, `1e3`, `-0`, 2^63); else `TooLarge`
-/// exactly where the value is beyond the limits, `MAX_WEIGHT` and `MAX_DEPTH`; else only where there is no memory.
+/// Reads a JSON tree as the value without sets whose form it is. What is read may be stored.
 ///
-/// The tree is measured before the value is built, so nothing beyond the limits is built; and what is read may be
-/// stored.
+/// The tree is measured before the value is built, so no value beyond the limits is built.
+///
+/// # Errors
+///
+/// Fails with `NotWhole` exactly if the tree is no value's form: a number in it isn't held as a whole number of 64
+/// bits with a sign (`1.0`, `1e3`, `-0`, 2^63). Otherwise fails with `TooLarge` exactly if the value is beyond the
+/// limits, `MAX_WEIGHT` and `MAX_DEPTH`; otherwise only if memory runs out.
 pub fn from_json(alloc: Global, json: &Json) -> Result<Value, JsonFault>
     ensures ok { IfOk result (λ v. value_from (view json.now) ≡ Some (tree_of v)) }
     ensures within { IfOk result (λ v. IsWithinLimits (tree_of v)) }
@@ -34,7 +37,7 @@ pub fn from_json(alloc: Global, json: &Json) -> Result<Value, JsonFault>
     Ok(read(alloc, json)?)
 }
 
-// Whether each number is held as a whole number of 64 bits with a sign.
+// Returns whether each number is held as a whole number of 64 bits with a sign.
 #[cycle(whole)]
 fn is_whole(json: &Json) -> bool
     ensures { result ≡ known (tree_from (view json.now)) }
@@ -71,14 +74,14 @@ fn members_are_whole(members: &Map<String, Json>) -> bool
     true
 }
 
-// How much a value weighs, and how deep it is.
+// The weight and the depth of a value.
 #[derive(Clone, Copy)]
 struct Measure {
     weight: u64,
     depth: u32,
 }
 
-// The measure of the value that the tree reads as.
+// Measures the value that the tree reads as.
 #[cycle(measure)]
 fn measure_of(json: &Json) -> Measure
     ensures sorted { IsSorted (tree_from (view json.now)) }
@@ -99,7 +102,7 @@ fn measure_of(json: &Json) -> Measure
     }
 }
 
-// The measure of a list or a map whose parts have a measure together.
+// Measures a list or a map by the measure of its parts.
 fn around(parts: Measure) -> Measure
     ensures weight { result.weight ≡ min (1 + parts.weight) (2 ^ 64 - 1) }
     ensures depth { result.depth ≡ min (1 + parts.depth) (2 ^ 32 - 1) }
@@ -145,7 +148,7 @@ fn measure_of_members(members: &Map<String, Json>) -> Measure
     Measure { weight, depth }
 }
 
-// The value that the tree reads as, with an unknown part for a number that isn't whole.
+// Builds the value that the tree reads as, with an unknown part for a number that isn't whole.
 #[cycle(read)]
 fn read(alloc: Global, json: &Json) -> Result<Value, AllocError>
     ensures { IfOk result (λ v. tree_of v ≡ tree_from (view json.now)) }

@@ -11,8 +11,8 @@ use serde::{Described, Serialize, Serializer};
 use std::collections::{BTreeMap, BTreeSet};
 use tf_value_data::Value;
 
-/// A value that is written as its JSON form, with null where a part is unknown: callers who must not lose that ask
-/// `is_known` first. An error is one of the serializer's, and no contract says when it comes.
+/// A value to be written as its JSON form, with null for each unknown part. Callers who must not lose unknown parts
+/// ask `is_known` first. An error comes from the serializer, and no contract says when.
 #[derive(Clone, Copy)]
 pub struct AsJson<'a> {
     /// The value to write.
@@ -44,7 +44,7 @@ fn send<S: Serializer>(value: &Value, out: &mut S) -> Result<(), S::Error>
     }
 }
 
-// A number below 0 is sent with its sign, any other as a number without one.
+// Sends a number below 0 with its sign, any other as a number without one.
 fn send_whole<S: Serializer>(number: i64, out: &mut S) -> Result<(), S::Error>
     ensures { OnOk result (Logs (S.written out.old) (S.written out.new) (number_event (of_integer number))) }
 {

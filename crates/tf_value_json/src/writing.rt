@@ -9,8 +9,8 @@ use std::alloc::{AllocError, Global};
 use std::collections::{BTreeMap, BTreeSet};
 use tf_value_data::{Value, entries_are_known, is_known};
 
-/// The JSON form of a value. Refused `UnknownInside` exactly where a part of the value is unknown, else only
-/// where there is no memory.
+/// Returns the JSON form of a value. Fails with `UnknownInside` exactly if a part of the value is unknown, otherwise
+/// only if memory runs out.
 #[tactic(auto, using(crate::proofs::Forms::form_along))]
 pub fn to_json(alloc: Global, value: &Value) -> Result<Json, JsonFault>
     ensures ok { IfOk result (λ j. view j ≡ value_data (tree_of value.now)) }
@@ -23,7 +23,7 @@ pub fn to_json(alloc: Global, value: &Value) -> Result<Json, JsonFault>
     Ok(written(alloc, value)?)
 }
 
-/// The JSON form of a map's entries, with the same refusals as for the map.
+/// Returns the JSON form of a map's entries. Fails as `to_json` does for the map.
 #[tactic(auto, using(crate::proofs::Forms::object_along))]
 pub fn entries_to_json(
     alloc: Global,
@@ -83,7 +83,7 @@ fn written_entries(
     Ok(object)
 }
 
-// The texts of a set as an array, in byte order.
+// Returns the texts of a set as an array, in byte order.
 fn written_texts(alloc: Global, texts: &BTreeSet<String>) -> Result<Vec<Json>, AllocError>
     ensures { IfOk result (λ js. json_items js.items ≡ texts_data (texts_view texts.now.keys)) }
 {

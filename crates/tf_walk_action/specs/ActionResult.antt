@@ -1,4 +1,4 @@
--- What may come of an action.
+-- The possible results of an action.
 use Rattle.std.specs.Prelude.{Bool, true, false, Option, Some, None}
 use Rattle.tf_plan_object.specs.Instance.{InstanceFaultView}
 use Rattle.tf_provider_protocol.specs.Meaning.{Asked, Answer}
@@ -6,9 +6,9 @@ use Rattle.tf_provider_protocol.specs.Verdict.{is_good_verdict}
 use Rattle.tf_provider_protocol.specs.declared.verdict.Verdict.{Verdict}
 use Rattle.tf_walk_action.specs.Excuse.{Moment}
 
--- What came of an action: it was skipped, since one before it isn't good; it was excused, since memory was refused or the
--- walk was to stop; its `for_each` or an argument has a fault, so nothing could be asked; or its provider was called, and
--- answered, and the answer was judged.
+-- The result of an action. It was skipped, since one directly before it isn't good; or excused, since memory ran out
+-- or the walk was stopped; or faulted, since its `for_each` or an argument has a fault; or its provider was called,
+-- and the answer was judged.
 pub data ActionResultView : Type 0 where
   skipped : ActionResultView
   excused : Moment → ActionResultView

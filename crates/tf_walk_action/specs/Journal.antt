@@ -19,22 +19,22 @@ use Rattle.tf_walk_action.specs.Outcome.{done_at}
 abbrev pub verdict_in : List Entry → ℕ → Option Verdict
 verdict_in entries n = option_map (λ e. e.verdict) (find (λ e. e.action == n) entries)
 
--- An action that was called has an entry with its verdict, and so has one whose provider had no memory.
+-- A called action has an entry with its verdict. So has an action whose provider had no memory.
 abbrev pub entered_verdict : ActionResultView → Option Verdict
 entered_verdict (called asked answer v) = Some v
 entered_verdict (excused during_call) = Some verdict.Excused
 entered_verdict _ = None
 
--- what the action at a place of the list has its provider do
+-- the operation of the action at a place of the list
 abbrev pub op_at : List ActionView → ℕ → Option Op
 op_at actions n = option_map (λ a. op_of a.step) (slice_get actions n)
 
--- an entry says what its action has its provider do
+-- an entry has the operation of its action
 abbrev pub IsOfAction : List ActionView → Entry → Type 0
 IsOfAction actions e = op_at actions e.action ≡ Some e.op
 
--- A journal holds exactly the called actions, each once with its verdict and with what its provider was to do, none before an
--- action that it depends on.
+-- A journal holds exactly the actions whose providers were called, each once with its verdict and its operation. No
+-- entry is before that of an action that it depends on.
 pub record IsJournal (plan : PlanView) (done : List ActionResultView) (entries : List Entry) : Type 0 where
   pub in_order : IsInOrder (predecessors_of plan.order) (actions_of entries)
   pub verdicts : (n : ℕ) → verdict_in entries n ≡ entered_verdict (done_at done n)

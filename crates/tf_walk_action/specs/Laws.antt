@@ -1,4 +1,4 @@
--- What holds of what is asked in an apply.
+-- Laws on the requests of an apply.
 use Rattle.std.specs.Prelude.{◌≡◌, ℕ, true}
 use Rattle.tf_plan_data.specs.Action.{ActionView}
 use Rattle.tf_config_address.specs.ObjectId.{InstanceKeyView}
@@ -10,11 +10,11 @@ use Rattle.tf_walk_names.specs.Resolving.{is_resource}
 use Rattle.tf_value_data.specs.Tree.{Tree}
 use Rattle.tf_walk_action.specs.Asked.{Requests, AreRequests}
 
--- Where no name of a plan's configuration needs itself, there are requests.
+-- If no name of a plan's configuration needs itself, requests exist.
 abbrev pub RequestsExist : Type 0
 RequestsExist = (plan : PlanView) → Ranked (directly_before (plan_names plan)) → (requests : Requests) × AreRequests plan requests
 
--- And they are one for each action of a resource that has a block, as each create and each update is.
+-- The request is unique for each action of a resource that has a block. Each create and each update is one of these.
 abbrev pub RequestsAreOne : Type 0
 RequestsAreOne =
     (plan : PlanView) (requests others : Requests)

@@ -1,4 +1,4 @@
--- What is told of a request that can't be made, and of an output that can't be evaluated.
+-- The messages about a request that can't be made, or an output that can't be evaluated.
 use Rattle.std.specs.Prelude.{ℕ, List, ◌++◌, codes}
 use Rattle.tf_expr_syntax.specs.EvalFault.{eval_fault_name}
 use Rattle.tf_expr_syntax.specs.declared.fault.EvalFault.{EvalFault}
@@ -15,7 +15,7 @@ abbrev pub argument_text : ArgumentFault → List ℕ
 argument_text (Evaluation why) = evaluation_text why
 argument_text BadArgument = codes "BadArgument"
 
--- `NAME: Evaluate(KIND)` or `NAME: BadArgument`, the name being `for_each` where that has the fault
+-- `NAME: Evaluate(KIND)` or `NAME: BadArgument`, with the name `for_each` if that has the fault
 abbrev pub fault_message : InstanceFaultView → List ℕ
 fault_message (for_each_fault why) = codes "for_each: " ++ evaluation_text why
 fault_message (argument_fault named) = named.0 ++ codes ": " ++ argument_text named.1

@@ -1,4 +1,4 @@
--- What came of an action, as the walk keeps it.
+-- The result of an action, as the walk stores it.
 use Rattle.std.specs.Prelude.{ℕ, List, map, Option, Some, None, Contains, ⊤}
 use Rattle.tf_plan_object.specs.Instance.{instance_fault_of}
 use Rattle.tf_graph.specs.Digraph.{Digraph, predecessors_of}
@@ -18,7 +18,7 @@ action_result_of (ended.Left w s) = excused by_stop
 action_result_of (ended.Faulted f w) = faulted (instance_fault_of f.fault)
 action_result_of (ended.Called s) = called (asked s.call.request) (answered s.call.reply) s.call.verdict
 
--- the action of which something came, as the evidence in it says
+-- the action of a result, as the evidence in it says
 abbrev pub ended_action : ActionResult → ℕ
 ended_action (ended.Skipped w b) = w
 ended_action (ended.NotAsked w) = w
@@ -27,21 +27,21 @@ ended_action (ended.Left w s) = w
 ended_action (ended.Faulted f w) = w
 ended_action (ended.Called s) = s.call.action
 
--- Where an action was skipped, one directly before it isn't good, as the evidence in it says.
+-- If an action was skipped, one directly before it isn't good, as the evidence in the result says.
 abbrev pub HasCause : Digraph → ActionResult → Type 0
 HasCause order (ended.Skipped w b) = Contains (predecessors_of order w) b
 HasCause order _ = ⊤
 
--- what came of an action, where that is known; else it counts as skipped
+-- the result of an action if it is known; otherwise it counts as skipped
 abbrev pub result_or_skipped : Option ActionResult → ActionResultView
 result_or_skipped None = skipped
 result_or_skipped (Some e) = action_result_of e
 
--- what came of each of some actions
+-- the results of some actions
 abbrev pub action_results_of : List (Option ActionResult) → List ActionResultView
 action_results_of results = map result_or_skipped results
 
--- What came of a call, by the verdict on what was answered: where the provider had no memory, the action was excused.
+-- The result of a call, by the verdict on its answer: if the provider had no memory, the action is excused.
 abbrev pub result_by : Asked → Option Answer → Verdict → ActionResultView
 result_by q a verdict.Excused = excused during_call
 result_by q a v = called q a v

@@ -1,4 +1,4 @@
--- What contracts of the crates above cite of this crate and of those below, from one place.
+-- The definitions of this crate and of lower ones that contracts of higher crates refer to.
 pub use Rattle.tf_config_data.specs.Words.{config_of, instance_key_of, addr_of, meant_at, names_of}
 pub use Rattle.tf_expand_keys.specs.Words.{entries_view, has, IsAcyclic, IsDependence, IsTable, names_in, seen_by, tree_of, with_nulls}
 pub use Rattle.tf_plan_data.specs.Words.{action_of, AreServed, deposed_key, FitsTogether, is_apply, IsDeclared, IsOfBlock, IsServedBy, needs_in, plan_names, plan_of, state_of, step_of}

@@ -1,4 +1,4 @@
-//! What came of an action.
+//! The result of an action.
 
 ghost use Rattle.std.specs.Prelude.{◌≡◌, ◌≤◌, [], true, None, option_map, replicate, string_bytes, string_capacity, vec_capacity};
 ghost use Rattle.tf_plan_object.specs.Instance.{instance_fault_of};
@@ -12,8 +12,8 @@ use crate::stop::Stopped;
 use tf_plan_object::InstanceFault;
 use tf_provider::{Judged, Unserved, Waived};
 
-/// A call whose provider had memory, with what was had for its reply: an empty text with room for each message about it. It
-/// can't be copied or let go.
+/// A call whose provider had memory, and an empty text with space for each message about its reply. It can be neither
+/// copied nor dropped.
 pub struct Served {
     pub call: Judged,
     pub message: String,
@@ -22,7 +22,7 @@ pub struct Served {
     pub ghost planned: { asks_planned call.request.op (option_map tree_of call.request.object) ≡ true },
 }
 
-/// An action for which nothing can be asked: what is wrong with its request, and the message that tells it.
+/// An action without a request: the fault of its request, and the message about that.
 #[derive(Drop)]
 pub struct Faulted {
     pub fault: InstanceFault,
@@ -30,24 +30,25 @@ pub struct Faulted {
     pub ghost told: { string_bytes message ≡ fault_message (instance_fault_of fault) },
 }
 
-/// What came of an action, with the evidence of whether its provider was called: so an action that was called can't be told
-/// as one that wasn't. As it may hold a reply it can't be copied or let go: it has to become a part of the report.
+/// The result of an action, with the evidence of whether its provider was called. So an action that was called can't
+/// be reported as one that wasn't. As it may hold a reply, it can be neither copied nor dropped: it has to become a
+/// part of the report.
 pub enum ActionResult {
-    /// An action before it isn't good, as the evidence of that one says.
+    /// An action directly before it isn't good, as the evidence of that one says.
     Skipped(Waived, NotGood),
-    /// Memory was refused before the call.
+    /// Memory ran out before the call.
     NotAsked(Waived),
     /// The provider had no memory.
     NotServed(Unserved),
-    /// The walk was to stop, so nothing was asked.
+    /// The walk was stopped, so nothing was requested.
     Left(Waived, Stopped),
-    /// Its `for_each` or an argument has a fault, so nothing could be asked.
+    /// Its `for_each` or an argument has a fault, so nothing could be requested.
     Faulted(Faulted, Waived),
     /// The provider was called, and its reply was judged.
     Called(Served),
 }
 
-/// A list of so many actions, none of which has ended, in an empty one with room for them.
+/// Fills an empty list with the given number of actions without a result. The list has space for them.
 pub fn not_ended(mut results: Vec<Option<ActionResult>>, count: usize) -> Vec<Option<ActionResult>>
     requires empty { results.items ≡ [] }
     requires room { count ≤ vec_capacity results }

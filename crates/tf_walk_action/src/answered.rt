@@ -1,4 +1,4 @@
-//! What instances stand for while a plan is carried out, as the requests and outputs that name them need it.
+//! The objects of instances while a plan is carried out, for the requests and outputs that need them.
 
 ghost use Rattle.std.specs.Prelude.{◌≡◌, IfOk, map, option_map, slice_get};
 ghost use Rattle.tf_plan_data.specs.Words.{action_of, instance_key_of, addr_of, meant_at, names_in, null, seen_by, state_of, tree_of};
@@ -16,8 +16,8 @@ use tf_state_data::State;
 use tf_value_data::{Value, copy};
 use tf_walk_names::Results;
 
-/// What instances stand for after some actions of a plan: for the objects that providers answered to those, and else for
-/// their prior objects. A request or an output is worked out by it.
+/// The objects of instances after some actions of a plan: those that providers answered to these actions, and the
+/// prior objects of all other instances. Requests and outputs are evaluated with it.
 #[derive(Drop)]
 pub struct Answered<'a> {
     /// The names of the plan's configuration.
@@ -26,9 +26,9 @@ pub struct Answered<'a> {
     pub prior: &'a State,
     /// All actions of the plan.
     pub actions: &'a [Action],
-    /// The actions that are seen, by their places.
+    /// The actions that count, by their places.
     pub seen: &'a [usize],
-    /// What came of each action, where that is known.
+    /// The result of each action, if it is known.
     pub results: &'a [Option<ActionResult>],
 }
 
@@ -45,20 +45,20 @@ impl Results for Answered<'_> {
     }
 }
 
-/// Whether the action at a place of the list creates or updates the instance of a key of the resource whose name stands
-/// at a place.
+/// Returns whether the action at a place of the list creates or updates the instance of a key of the resource that is
+/// declared at a place.
 pub fn applies_to(actions: &[Action], action: usize, place: usize, key: &InstanceKey) -> bool
     ensures { result ≡ is_of (slice_get (map action_of actions.now) action) place (instance_key_of key.now) }
 {
     is_of(action_at(actions, action), place, key)
 }
 
-/// The current object that the prior state has of the instance of a key of the resource whose name stands at a place,
-/// copied; null where it has none.
+/// Returns a copy of the current object in the prior state of the instance of a key of the resource that is declared
+/// at a place. Returns null if there is none.
 ///
 /// # Errors
 ///
-/// Only where memory runs out.
+/// Fails only if memory runs out.
 pub fn prior_object(
     names: &Declarations<'_>,
     prior: &State,
@@ -76,14 +76,14 @@ pub fn prior_object(
     }
 }
 
-/// What stands for an instance without an object.
+/// Returns the value of an instance without an object.
 fn no_object() -> Value
     ensures { tree_of result ≡ null }
 {
     Value::Null
 }
 
-/// The current object of an instance of the resource at an address, copied; null where the state has none.
+/// Returns a copy of the current object of an instance of the resource at an address; null if the state has none.
 fn current_object(
     prior: &State,
     addr: &ResourceAddr,
@@ -101,7 +101,7 @@ fn current_object(
     }
 }
 
-/// The action at a place of the list, if there is one.
+/// Returns the action at a place of the list, if there is one.
 fn action_at(actions: &[Action], place: usize) -> Option<&Action>
     ensures { option_map (λ a. action_of a.now) result ≡ slice_get (map action_of actions.now) place }
 {
@@ -112,7 +112,7 @@ fn action_at(actions: &[Action], place: usize) -> Option<&Action>
     }
 }
 
-/// Whether an action creates or updates an instance of the resource whose name stands at a place.
+/// Returns whether an action creates or updates an instance of the resource that is declared at a place.
 fn is_of(action: Option<&Action>, place: usize, key: &InstanceKey) -> bool
     ensures { result ≡ is_of (option_map (λ a. action_of a.now) action.entry) place (instance_key_of key.now) }
 {
@@ -122,7 +122,7 @@ fn is_of(action: Option<&Action>, place: usize, key: &InstanceKey) -> bool
     }
 }
 
-/// The object that a provider answered to the action at a place, copied; null where there is none.
+/// Returns a copy of the object that a provider answered to the action at a place; null if there is none.
 fn object_at(
     alloc: Global,
     results: &[Option<ActionResult>],
@@ -136,7 +136,7 @@ fn object_at(
     }
 }
 
-/// The object that a provider answered, copied; null where there is none.
+/// Returns a copy of the object that a provider answered; null if there is none.
 fn answered_object(alloc: Global, ended: &Option<ActionResult>) -> Result<Value, AllocError>
     ensures { IfOk result (λ value. tree_of value ≡ object_of (result_or_skipped ended.now)) }
 {

@@ -21,16 +21,16 @@ use tf_state_data::Object;
 use tf_value_data::Value;
 use tf_walk_names::Results;
 
-/// What is asked for an action of a plan by the schema of the first provider that has its type, or what is wrong with
-/// it, where instances stand for these results.
+/// Builds the request of an action of a plan, by the schema of the first provider that has its type, or the request's
+/// fault. Instances have the objects of `results`.
 ///
-/// `kept` has what names stand for by these results so far, by place, none at first, and then also what they stand for that the
-/// action's block names: actions that are asked for by the same results have each local evaluated once, and each resource's
-/// objects collected once.
+/// `kept` holds the values of names by these results, by place. It is empty at first, and gains the values of the
+/// names in the action's block. So actions that share it evaluate each local once, and collect each resource's
+/// objects once.
 ///
 /// # Errors
 ///
-/// Only where memory runs out. What stands in `kept` is right then too.
+/// Fails only if memory runs out. The values in `kept` are right then too.
 pub fn ask_provider<R: Results>(
     alloc: Global,
     plan: &Plan,
@@ -70,7 +70,7 @@ pub fn ask_provider<R: Results>(
 }
 
 impl<R: Results> Task<'_, '_, R> {
-    /// What is asked for the action, or what is wrong with it.
+    /// Builds the action's request, or its fault.
     fn ask(&self, kept: &mut Vec<Resolved>) -> Result<Result<PreparedCall, Faulted>, AllocError>
         requires fits { FitsTogether self.now.plan.now }
         requires names { names_in self.now.names.now ≡ names_of (config_of self.now.plan.now.config) }
@@ -99,7 +99,7 @@ impl<R: Results> Task<'_, '_, R> {
         }
     }
 
-    /// What is asked for a create, or what is wrong with it.
+    /// Builds the request of a create, or its fault.
     fn ask_create(
         &self,
         kept: &mut Vec<Resolved>,
@@ -121,7 +121,7 @@ impl<R: Results> Task<'_, '_, R> {
         }
     }
 
-    /// What is asked for an update of an object, or what is wrong with it.
+    /// Builds the request of an update, or its fault.
     fn ask_update(
         &self,
         prior: &Object,
@@ -150,7 +150,7 @@ impl<R: Results> Task<'_, '_, R> {
     }
 }
 
-/// The request to make an object, with room for what is told of its reply.
+/// Builds the request to create an object, with space for messages about its reply.
 fn creating(alloc: Global, action: &Action, object: Value) -> Result<PreparedCall, AllocError>
     requires { has_planned_attributes (tree_of object) ≡ true }
     ensures { IfOk result (λ asking. asked asking.request ≡ create_of (action_of action.now) (tree_of object)) }
@@ -160,7 +160,7 @@ fn creating(alloc: Global, action: &Action, object: Value) -> Result<PreparedCal
     Ok(PreparedCall { request, message })
 }
 
-/// The request to make of an object that is there another, with room for what is told of its reply.
+/// Builds the request to update an existing object to another, with space for messages about its reply.
 fn updating(
     alloc: Global,
     action: &Action,
@@ -175,7 +175,8 @@ fn updating(
     Ok(PreparedCall { request, message })
 }
 
-/// The request to take an object away, the current one or the deposed one of a key, with room for what is told of its reply.
+/// Builds the request to destroy an object, the current one or the deposed one of a key, with space for messages
+/// about its reply.
 fn destroying(
     alloc: Global,
     action: &Action,
@@ -190,7 +191,7 @@ fn destroying(
     Ok(PreparedCall { request, message })
 }
 
-/// A request about the instance of an action.
+/// Builds a request about the instance of an action.
 fn request_for(
     alloc: Global,
     action: &Action,

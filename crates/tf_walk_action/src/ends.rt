@@ -1,4 +1,4 @@
-//! How an action is ended, and what an end says of it.
+//! How an action ends, and what its result says.
 
 ghost use Rattle.std.specs.Prelude.{◌≡◌, true, false, MatchOption};
 ghost use Rattle.tf_walk_action.specs.ResultViews.{action_result_of, ended_action};
@@ -12,7 +12,8 @@ use tf_claim::{Finished, Permit};
 use tf_provider::{Verdict, waive_for};
 
 impl ActionResult {
-    /// An action that is skipped, since this one directly before it isn't good, and the right to report it as done.
+    /// Ends an action as skipped, since the given one directly before it isn't good. Also returns the right to report
+    /// it as done.
     pub fn skipped(permit: Permit, bad: NotGood) -> (ActionResult, Finished)
         ensures ended { result.0 ≡ ended.Skipped permit bad }
         ensures finished { result.1 ≡ permit }
@@ -21,7 +22,7 @@ impl ActionResult {
         (ActionResult::Skipped(waived, bad), finished)
     }
 
-    /// An action for whose request memory was refused, and the right to report it as done.
+    /// Ends an action for whose request memory ran out. Also returns the right to report it as done.
     pub fn not_asked(permit: Permit) -> (ActionResult, Finished)
         ensures ended { result.0 ≡ ended.NotAsked permit }
         ensures finished { result.1 ≡ permit }
@@ -30,7 +31,7 @@ impl ActionResult {
         (ActionResult::NotAsked(waived), finished)
     }
 
-    /// An action that is left, since the walk is to stop, and the right to report it as done.
+    /// Ends an action as left, since the walk was stopped. Also returns the right to report it as done.
     pub fn left(permit: Permit, stopped: Stopped) -> (ActionResult, Finished)
         ensures ended { result.0 ≡ ended.Left permit stopped }
         ensures finished { result.1 ≡ permit }
@@ -39,7 +40,7 @@ impl ActionResult {
         (ActionResult::Left(waived, stopped), finished)
     }
 
-    /// An action for which nothing can be asked, and the right to report it as done.
+    /// Ends an action whose request has a fault. Also returns the right to report it as done.
     pub fn faulted(permit: Permit, faulted: Faulted) -> (ActionResult, Finished)
         ensures ended { result.0 ≡ ended.Faulted faulted permit }
         ensures finished { result.1 ≡ permit }
@@ -48,7 +49,7 @@ impl ActionResult {
         (ActionResult::Faulted(faulted, waived), finished)
     }
 
-    /// The action of which this came.
+    /// Returns the action of this result.
     pub fn action(&self) -> usize
         ensures { result ≡ ended_action self.now }
     {
@@ -62,7 +63,7 @@ impl ActionResult {
         }
     }
 
-    /// Whether the action is good: its provider was called, and its reply was judged so.
+    /// Returns whether the action is good: its provider was called, with the verdict good.
     pub fn is_good(&self) -> bool
         ensures { result ≡ is_good (action_result_of self.now) }
     {
@@ -72,7 +73,7 @@ impl ActionResult {
         }
     }
 
-    /// The evidence that the action isn't good, where it isn't.
+    /// Returns the evidence that the action isn't good, if it isn't.
     pub fn not_good(&self) -> Option<NotGood>
         ensures { MatchOption result
             (is_good (action_result_of self.now) ≡ true)

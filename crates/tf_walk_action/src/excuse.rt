@@ -1,31 +1,31 @@
-//! How actions end, and for which of them memory was refused.
+//! How actions end, and which are excused.
 
 use tf_provider_protocol::Verdict;
 
 /// How an action ended.
 #[derive(Clone, Copy, Debug, PartialEq, Eq)]
 pub enum Outcome {
-    /// An action before it isn't good, so nothing was called.
+    /// An action directly before it isn't good, so no provider was called.
     Skipped,
-    /// Memory was refused before the call or during it, or the action was left because of a stop, so nothing was done.
+    /// Memory ran out before the call or during it, or a stop left the action, so nothing was done.
     Excused,
-    /// Its `for_each` or an argument has a fault, where names stand for what the providers answered, so nothing was
+    /// Its `for_each` or an argument has a fault, evaluated with what the providers answered, so no provider was
     /// called.
     ArgumentFault,
     /// The provider was called, and its reply has this verdict.
     Judged(Verdict),
 }
 
-/// What is excused: an action, by its place in the plan's list of actions, or an output, by its place in byte order of
+/// An excuse of an action, by its place in the plan's list of actions, or of an output, by its place in byte order of
 /// names.
 #[derive(Clone, Copy, Debug, PartialEq, Eq)]
 pub enum Excuse {
-    /// Memory for the request was refused, before the provider was called.
+    /// Memory for the request ran out, before the provider was called.
     Before(usize),
     /// The provider was called, and answered that it had no memory.
     During(usize),
-    /// The walk was to stop before the request was made.
+    /// The walk was stopped before the request was built.
     Left(usize),
-    /// Memory for the output's value was refused.
+    /// Memory for the output's value ran out.
     Output(usize),
 }

@@ -1,9 +1,9 @@
-//! One action of a plan that is carried out: what it asks of its provider, and what becomes of it.
+//! One action of a plan that is carried out: its request and its outcome.
 //!
-//! What is asked for an instance is the object that is planned for it, valued again where each resource that it needs stands
-//! for what its providers answered (`tf_walk_names`). One rule says by what an action is skipped, excused, faulted or called,
-//! and what came of it is kept until it is reported. The room that is needed to tell of a reply is had before the call. With it
-//! is the flag by which a walk is stopped.
+//! The request for an instance is the object that is planned for it, evaluated again with each resource that it needs
+//! as its providers answered (`tf_walk_names`). One rule says when an action is skipped, excused, faulted or called.
+//! Its result is stored until it is reported. The space for messages about a reply is allocated before the call. The
+//! flag that stops a walk is also here.
 #![tactic(auto)]
 
 mod action_result;

@@ -1,4 +1,4 @@
-//! What is told of a request that can't be made.
+//! Messages about a request that can't be made.
 
 ghost use Rattle.std.specs.Prelude.{◌≡◌, ◌++◌, IfOk, codes, string_bytes};
 ghost use Rattle.tf_plan_object.specs.Instance.{instance_fault_of};
@@ -9,11 +9,11 @@ use std::alloc::{AllocError, Global};
 use tf_expr_syntax::EvalFault;
 use tf_plan_object::{ArgumentFault, InstanceFault};
 
-/// An action for which nothing can be asked, with the message that tells why.
+/// Builds the result of a request with a fault, with the message about it.
 ///
 /// # Errors
 ///
-/// Only where memory runs out.
+/// Fails only if memory runs out.
 pub(crate) fn faulted(alloc: Global, fault: InstanceFault) -> Result<Faulted, AllocError>
     ensures { IfOk result (λ f. instance_fault_of f.fault ≡ instance_fault_of fault) }
 {
@@ -21,7 +21,7 @@ pub(crate) fn faulted(alloc: Global, fault: InstanceFault) -> Result<Faulted, Al
     Ok(Faulted { fault, message })
 }
 
-/// `NAME: Evaluate(KIND)` or `NAME: BadArgument`.
+/// Writes `NAME: Evaluate(KIND)` or `NAME: BadArgument`.
 fn fault_message(alloc: Global, fault: &InstanceFault) -> Result<String, AllocError>
     ensures { IfOk result (λ text. string_bytes text ≡ fault_message (instance_fault_of fault.now)) }
 {

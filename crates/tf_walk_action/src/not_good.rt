@@ -1,18 +1,18 @@
-//! That an action isn't good.
+//! The evidence that an action isn't good.
 
 ghost use Rattle.std.specs.Prelude.{◌≡◌, ℕ};
 
 use std::marker::Model;
 
-/// The evidence that an action isn't good, so that none that it stands directly before may be called. Only what came of the
-/// action gives it. Contracts see the action's number.
+/// The evidence that an action isn't good, so that no action that it is directly before may be called. Only the
+/// action's result creates it. Contracts see the action's number.
 #[derive(Debug, Drop)]
 pub struct NotGood {
     action: usize,
 }
 
 impl NotGood {
-    /// That this action isn't good, as what came of it says.
+    /// Creates the evidence for an action, as its result says.
     pub(crate) fn of(action: usize) -> NotGood
         ensures { result ≡ action }
     {

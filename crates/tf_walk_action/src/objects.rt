@@ -1,4 +1,4 @@
-//! The objects that are asked for.
+//! The requested objects.
 
 ghost use Rattle.std.specs.Prelude.{◌≡◌, ◌<◌, true, IfOk, length, map, string_bytes};
 ghost use Rattle.tf_walk_action.specs.SoFar.{ResolvedSoFar};
@@ -14,8 +14,8 @@ use tf_provider_protocol::Schema;
 use tf_value_data::Value;
 use tf_walk_names::Results;
 
-/// What an object is asked for by: the action of a plan, the names of its configuration, the schema of the action's type,
-/// and the results that instances stand for.
+/// What determines the requested object: the action of a plan, the names of its configuration, the schema of the
+/// action's type, and the objects of instances.
 #[derive(Drop)]
 pub(crate) struct Task<'a, 'n, R> {
     pub alloc: Global,
@@ -27,7 +27,8 @@ pub(crate) struct Task<'a, 'n, R> {
 }
 
 impl<R: Results> Task<'_, '_, R> {
-    /// What the block of the action's instance makes of it, or what is wrong with it. `kept` has what names stand for so far.
+    /// Evaluates the block of the action's instance to an object, or its fault. `kept` holds the values of names so
+    /// far.
     pub(crate) fn made_object(
         &self,
         kept: &mut Vec<Resolved>,
@@ -63,7 +64,8 @@ impl<R: Results> Task<'_, '_, R> {
         )
     }
 
-    /// An object with what is kept of the prior one, both what the provider sets and what the block of its resource ignores.
+    /// Adds the kept attributes of the prior object to an object: those that the provider sets, and those that the
+    /// block of its resource ignores.
     pub(crate) fn kept(&self, prior: &Value, object: &Value) -> Result<Value, AllocError>
         requires { (action_of self.now.action.now).resource < length (names_in self.now.names.now) }
         ensures { IfOk result (λ v. tree_of v ≡ kept_object self.now.schema.now (ignored_by (meant_at (names_in self.now.names.now) (action_of self.now.action.now).resource)) (tree_of prior.now) (tree_of object.now)) }
@@ -73,7 +75,7 @@ impl<R: Results> Task<'_, '_, R> {
     }
 }
 
-/// The names of the attributes whose changes the block of a resource ignores.
+/// Returns the names of the attributes whose changes the block of a resource ignores.
 fn ignored_by<'a>(names: &Declarations<'a>, place: usize) -> &'a [String]
     requires { place < length (names_in names.now) }
     ensures { map string_bytes result.now ≡ ignored_by (meant_at (names_in names.now) place) }

@@ -1,4 +1,4 @@
-//! What is had before a call: the request, and room for a message about its reply.
+//! What is allocated before a call: the request, and space for a message about its reply.
 
 ghost use Rattle.std.specs.Prelude.{◌≡◌, [], true, option_map, string_bytes, string_capacity};
 ghost use Rattle.tf_value_data.specs.Tree.{tree_of};
@@ -7,12 +7,12 @@ ghost use Rattle.tf_walk_action.specs.Room.{message_fits};
 
 use tf_provider_protocol::Request;
 
-/// What is had before a provider is called, so that what comes of its reply is reported without taking memory.
+/// A request, and what is allocated before its call so that its outcome is reported without taking memory.
 #[derive(Drop)]
 pub struct PreparedCall {
     /// The request.
     pub request: Request,
-    /// An empty text with room for each message about a reply.
+    /// An empty text with space for each message about a reply.
     pub message: String,
     pub ghost blank: { string_bytes message ≡ [] },
     pub ghost fits: { message_fits (string_capacity message) (option_map tree_of request.object) ≡ true },

@@ -1,4 +1,4 @@
-//! What came of a call, once it is recorded.
+//! The result of a recorded call.
 
 ghost use Rattle.std.specs.Prelude.{◌≡◌, [], true, option_map, string_bytes, string_capacity};
 ghost use Rattle.tf_provider_protocol.specs.Meaning.{asked, answered};
@@ -12,8 +12,8 @@ use crate::action_result::{ActionResult, Served};
 use tf_claim::Finished;
 use tf_provider::Recorded;
 
-/// What came of a recorded call, and the right to report its action as done. It takes what was had before the call beside
-/// its request: an empty text with room for each message about the reply.
+/// Returns the result of a recorded call, and the right to report its action as done. It takes the empty text that
+/// was allocated before the call, with space for each message about the reply.
 pub fn ended_by(recorded: Recorded, message: String) -> (ActionResult, Finished)
     requires blank { string_bytes message ≡ [] }
     requires fits { message_fits (string_capacity message) (option_map tree_of recorded.request.object) ≡ true }

@@ -1,4 +1,4 @@
-//! What is asked of a provider for an instance.
+//! The request for an instance.
 
 ghost use Rattle.std.specs.Prelude.{◌≡◌, true, IfOk};
 ghost use Rattle.tf_expand_keys.specs.Words.{entries_view, instance_key_of, meant_at, names_in, shapes_of, resolved_names_of, tree_of};
@@ -16,17 +16,18 @@ use tf_provider_protocol::Schema;
 use tf_value_data::Value;
 use tf_walk_names::{Results, add_resolved_names, named_for_instance};
 
-/// What is asked of a provider for the create of an instance of the resource at a place, or what is wrong with it: what
-/// is planned for it, where the resources that it needs stand for what their providers answered. `shapes` says of the
-/// place of each name how its instances stand together. No local is evaluated, and no object copied, that the block's
-/// expressions don't name, directly or through locals.
+/// Evaluates the object to request for the create of an instance of the resource at a place, or its fault: the object
+/// that is planned for it, with the resources that it needs as their providers answered. `shapes` gives the instance
+/// keys of each name, by place. Only the locals and objects that the block's expressions name, directly or through
+/// locals, are evaluated or copied.
 ///
-/// `kept` has what names stand for so far, by place, none at first, and then also what they stand for that the block names:
-/// requests that share it, by the same answers, have each local evaluated once and each resource's objects collected once.
+/// `kept` holds the values of names so far, by place. It is empty at first, and gains the values of the names in the
+/// block. So requests with the same answers that share it evaluate each local once, and collect each resource's
+/// objects once.
 ///
 /// # Errors
 ///
-/// Only where memory runs out. What stands in `kept` is right then too, and may be more than before.
+/// Fails only if memory runs out. The values in `kept` are right then too, and may be more than before.
 pub(crate) fn request<R: Results>(
     alloc: Global,
     declared: &Module,

@@ -1,4 +1,4 @@
-//! What is had for a reply before the call.
+//! The space for a message about a reply, allocated before the call.
 
 ghost use Rattle.std.specs.List.{list_all};
 ghost use Rattle.std.specs.Prelude.{◌≡◌, ◌≤◌, ◌+◌, ℕ, [], true, None, Some, nat_le, length, IfOk, string_bytes, string_capacity};
@@ -8,7 +8,7 @@ use std::alloc::{AllocError, Global};
 use std::collections::BTreeMap;
 use tf_value_data::Value;
 
-/// An empty text with room for each message about a reply to a request for this object.
+/// Allocates an empty text with space for each message about a reply to a request for this object.
 pub(crate) fn reserve_message(alloc: Global, object: &Value) -> Result<String, AllocError>
     ensures blank { IfOk result (λ text. string_bytes text ≡ []) }
     ensures fits { IfOk result (λ text. message_fits (string_capacity text) (Some (tree_of object.now)) ≡ true) }
@@ -19,7 +19,7 @@ pub(crate) fn reserve_message(alloc: Global, object: &Value) -> Result<String, A
     }
 }
 
-/// An empty text with room for each message about a reply to a request for no object.
+/// Allocates an empty text with space for each message about a reply to a request for no object.
 pub(crate) fn least_room(alloc: Global) -> Result<String, AllocError>
     ensures blank { IfOk result (λ text. string_bytes text ≡ []) }
     ensures fits { IfOk result (λ text. message_fits (string_capacity text) None ≡ true) }
@@ -27,7 +27,7 @@ pub(crate) fn least_room(alloc: Global) -> Result<String, AllocError>
     String::with_capacity(alloc, 15)
 }
 
-/// How many bytes a message may have that names one of these attributes.
+/// Returns the largest number of bytes that a message about one of these attributes may have.
 fn room_for_names(attributes: &BTreeMap<String, Value>) -> usize
     ensures least { 15 ≤ result }
     ensures names { (capacity : ℕ) → result ≤ capacity →

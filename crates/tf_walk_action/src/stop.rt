@@ -2,36 +2,42 @@
 
 use std::sync::atomic::{AtomicBool, Ordering};
 
-/// Whether a walk is to stop: a flag that threads share, and that is only ever set. Once it is set, the walk calls no
-/// further provider, and what was called already is waited for. No contract rests on it.
+/// A flag that stops a walk. Threads share it, and nothing clears it. Before each call the walk looks at the flag, and makes
+/// the call only if the flag isn't set. A call whose look came before the flag was set still begins, and the walk waits for
+/// the calls that have begun. No contract depends on the flag.
 #[derive(Drop)]
 pub struct Stop {
     flag: AtomicBool,
 }
 
-/// The evidence that a flag was seen set. Only a look at one makes it, and it can't be copied: so each action that is left
-/// because of a stop was left after a look of its own.
+/// The evidence that a flag was seen set. Only a look at a flag makes it, and it can't be copied. So each action that a walk
+/// leaves because of a stop has a look of its own.
 #[derive(Debug, Drop)]
 pub struct Stopped {
     seen: (),
 }
 
 impl Stop {
-    /// A flag that isn't set.
+    /// Returns a flag that isn't set.
     pub const fn new() -> Stop {
         Stop {
             flag: AtomicBool::new(false),
         }
     }
 
-    /// Sets the flag, for good.
+    /// Sets the flag, permanently.
     pub fn set(&self) {
         self.flag.store(true, Ordering::SeqCst);
     }
 
-    /// Looks whether the flag is set: where it is, here is the evidence.
+    /// Returns whether the flag is set.
+    pub fn is_set(&self) -> bool {
+        self.flag.load(Ordering::SeqCst)
+    }
+
+    /// Returns the evidence that the flag is set, or `None` if it isn't.
     pub fn look(&self) -> Option<Stopped> {
-        if self.flag.load(Ordering::SeqCst) {
+        if self.is_set() {
             Some(Stopped { seen: () })
         } else {
             None
@@ -39,11 +45,11 @@ impl Stop {
     }
 }
 
-/// A flag may be shared by threads, and so may the evidence that one was seen set.
+/// Requires that threads may share a flag, and the evidence that one was seen set.
 pub fn stops_are_shared(stop: &Stop, stopped: &Stopped) {
     share(stop);
     share(stopped);
 }
 
-/// Takes what threads may share.
+/// Takes a value that threads may share.
 fn share<T: Sync>(_shared: &T) {}

@@ -1,4 +1,4 @@
--- The resources that a resource depends on, as a state keeps them.
+-- The resources that a resource depends on, as a state stores them.
 use Rattle.std.specs.Prelude.{ℕ, Bool, List, [], length, filter, fold, Option, Some, None}
 use Rattle.std.specs.List.{filter_map, range_with_len}
 use Rattle.tf_config_address.specs.ResourceAddr.{addr_text}
@@ -11,12 +11,12 @@ address_of (Some (a_block block)) = Some (addr_text block.addr)
 address_of (Some (a_local e)) = None
 address_of None = None
 
--- some addresses in byte order, with one more, where it is one
+-- some addresses in byte order, with one more if it is given
 abbrev pub with_address : Option (List ℕ) → List (List ℕ) → List (List ℕ)
 with_address None found = found
 with_address (Some address) found = put_text found address
 
--- The addresses of all resources that the name at a place needs, each once and in byte order.
+-- The addresses of all resources that the name at an index needs, each once and in byte order.
 abbrev pub dependencies : (ℕ → ℕ → Bool) → List NameView → ℕ → List (List ℕ)
 dependencies needs names n = fold (λ found m. with_address (address_of (meant_at names m)) found) [] (filter (needs n) (range_with_len 0 (length names)))
 
@@ -24,7 +24,7 @@ dependencies needs names n = fold (λ found m. with_address (address_of (meant_a
 abbrev pub addresses : (ℕ → ℕ → Bool) → List NameView → ℕ → List (List ℕ)
 addresses needs names n = filter_map (λ m. address_of (meant_at names m)) (filter (needs n) (range_with_len 0 (length names)))
 
--- the addresses of the resources at some places
+-- the addresses of the resources at some indexes
 abbrev pub addresses_at : List NameView → List ℕ → List (List ℕ)
 addresses_at names places = filter_map (λ m. address_of (meant_at names m)) places
 

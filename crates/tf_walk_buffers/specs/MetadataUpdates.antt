@@ -1,4 +1,4 @@
--- What the records of objects without an action are given anew.
+-- The metadata updates of records without an action.
 use Rattle.std.specs.Prelude.{ℕ, ◌==◌, ◌&&◌, Bool, true, false, not, nat_lt, if◌then◌else◌, List, [], map, filter, length, Option, Some, None}
 use Rattle.std.specs.List.{flat_map, list_any}
 use Rattle.tf_config_address.specs.ResourceAddr.{ResourceAddrView}
@@ -17,15 +17,15 @@ abbrev pub is_none : {A : Type 0} → Option A → Bool
 is_none None = true
 is_none (Some a) = false
 
--- an action is about the current object of an instance of the resource of a number
+-- an action is about the current object of an instance of the resource with a number
 abbrev pub is_about : ℕ → InstanceKeyView → ActionView → Bool
 is_about n key a = a.resource == n && is_none (deposed_key a.step) && same_instance_key a.key key
 
--- A record of an object of the resource of a number stays: the object is current, and no action is about it.
+-- A record of the resource with a number stays if its object is current and no action is about it.
 abbrev pub stays : PlanView → ℕ → RecordView → Bool
 stays plan n r = is_none r.id.deposed && not (list_any (is_about n r.id.key) plan.actions)
 
--- The record of such an object is given anew what its resource needs by the configuration, and whether that is late.
+-- Such a record gets new metadata: what its resource needs by the configuration, and whether that resource is late.
 abbrev pub metadata_update_of_record : PlanView → ResourceAddrView → ℕ → RecordView → MetadataUpdateView
 metadata_update_of_record plan addr n r =
     record {
@@ -40,7 +40,8 @@ metadata_update_of_record plan addr n r =
           };
     }
 
--- Of a resource whose block stands, each record that stays; its number is below those of resources without a block.
+-- The metadata update of each record of a resource that stays, if the resource's block exists. The number of such a
+-- resource is below those of resources without a block.
 abbrev pub metadata_updates_at : PlanView → ResourceView → Option ℕ → List MetadataUpdateView
 metadata_updates_at plan r None = []
 metadata_updates_at plan r (Some n) = if nat_lt n (length (plan_names plan)) then map (metadata_update_of_record plan r.addr n) (filter (stays plan n) r.records) else []
@@ -48,6 +49,6 @@ metadata_updates_at plan r (Some n) = if nat_lt n (length (plan_names plan)) the
 abbrev pub metadata_updates_of : PlanView → ResourceView → List MetadataUpdateView
 metadata_updates_of plan r = metadata_updates_at plan r (place_in (numbered (plan_names plan) plan.prior.resources) r.addr)
 
--- What is given anew: the records of the objects without an action whose blocks stand.
+-- The metadata updates of a plan: those of the records without an action whose blocks exist.
 abbrev pub metadata_updates : PlanView → List MetadataUpdateView
 metadata_updates plan = flat_map (metadata_updates_of plan) plan.prior.resources

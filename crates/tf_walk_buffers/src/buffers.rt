@@ -1,4 +1,4 @@
-//! What the report on each action needs memory for.
+//! The memory that the report on each action needs.
 
 ghost use Rattle.std.specs.Prelude.{◌≡◌, ◌≤◌, [], string_bytes, string_capacity};
 
@@ -6,27 +6,27 @@ use tf_config_address::{ObjectId, ResourceAddr};
 use tf_provider_protocol::Op;
 use tf_state_next::RecordInput;
 
-/// What an action is about.
+/// The target of an action.
 #[derive(Drop)]
 pub enum Target {
-    /// The current object of an instance, which it makes or changes, with what the object's record is given.
+    /// The current object of an instance, which the action makes or changes, with the input for the object's record.
     Instance(RecordInput),
-    /// An object that it destroys.
+    /// An object that the action destroys.
     Object(ObjectId),
 }
 
-/// Room for the report on one action.
+/// The buffers for the report on one action.
 #[derive(Drop)]
 pub struct ActionBuffers<'p> {
-    /// The address of its instance, and behind it of a deposed object ` (deposed KEY)`.
+    /// The address of its instance, followed by ` (deposed KEY)` for a deposed object.
     pub place: String,
     /// What its provider is asked to do.
     pub op: Op,
-    /// Its resource.
+    /// The address of its resource.
     pub addr: &'p ResourceAddr,
-    /// What it is about.
+    /// Its target.
     pub target: Target,
-    /// An empty text, with room for what is told where there was no memory.
+    /// An empty text, with capacity for the message of an excused action.
     pub message: String,
     pub ghost blank: { string_bytes message ≡ [] },
     pub ghost long: { 15 ≤ string_capacity message },

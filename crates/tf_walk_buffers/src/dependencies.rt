@@ -1,4 +1,4 @@
-//! What a resource depends on, as a state keeps it.
+//! The dependencies of a resource, as a state stores them.
 
 ghost use Rattle.std.specs.Option.{option_to_list};
 ghost use Rattle.std.specs.Prelude.{◌≡◌, ◌<◌, ◌++◌, ◌∷◌, [], ℕ, Bool, Contains, IfOk, OnOk, length, map, string_bytes};
@@ -13,11 +13,11 @@ use tf_config_address::ResourceAddr;
 use tf_config_names::{Declaration, Declarations};
 use tf_plan_data::addr_text;
 
-/// The addresses `TYPE.NAME` of the resources that the list of a place has, in byte order.
+/// Returns the addresses `TYPE.NAME` of the resources in the list at an index, in byte order.
 ///
 /// # Errors
 ///
-/// Only where memory runs out.
+/// Fails with `AllocError` if memory runs out.
 pub(crate) fn dependencies_listed(
     alloc: Global,
     names: &Declarations<'_>,
@@ -33,7 +33,7 @@ pub(crate) fn dependencies_listed(
     in_order(alloc, found)
 }
 
-/// The addresses of the resources at some places.
+/// Returns the addresses of the resources at some indexes.
 fn addresses_at(
     alloc: Global,
     names: &Declarations<'_>,
@@ -49,15 +49,15 @@ fn addresses_at(
     Ok(found)
 }
 
-/// Texts in byte order, each once. All are put in order together: where they stand in it already, each is compared with
-/// its neighbours alone.
+/// Returns texts in byte order, each once. All are sorted together: if they are in order already, each is compared only
+/// with its neighbours.
 fn in_order(alloc: Global, texts: Vec<String>) -> Result<BTreeSet<String>, AllocError>
     ensures { IfOk result (λ found. map string_bytes found.keys ≡ put_all (map string_bytes texts.items)) }
 {
     BTreeSet::from_iter(alloc, texts)
 }
 
-/// Notes the address of the name at a place, where that is a resource.
+/// Adds the address of the name at an index, if that is a resource.
 fn note(
     alloc: Global,
     found: &mut Vec<String>,
@@ -74,7 +74,7 @@ fn note(
     }
 }
 
-/// Notes an address.
+/// Adds an address.
 fn note_addr(alloc: Global, found: &mut Vec<String>, addr: &ResourceAddr) -> Result<(), AllocError>
     ensures { OnOk result (map string_bytes found.new.items ≡ map string_bytes found.old.items ++ addr_text (addr_of addr.now) ∷ []) }
 {

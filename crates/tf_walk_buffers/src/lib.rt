@@ -1,5 +1,5 @@
-//! What is known of each action of a plan, and of each record that is given anew, before the first call: so that what comes of
-//! the actions is told and saved without taking memory.
+//! What is known before the first call of each action of a plan, and of each record whose metadata is updated. So the
+//! outcomes of the actions are reported and saved without taking memory.
 #![tactic(auto)]
 
 mod buffers;

@@ -1,4 +1,4 @@
-//! Which resources the resources of some actions need, worked out for all of them together.
+//! Which resources the resources of some actions need, computed for all of them together.
 
 ghost use Rattle.std.specs.List.{AllByRecursion};
 ghost use Rattle.std.specs.Option.{option_to_list};
@@ -15,8 +15,8 @@ use tf_config_names::{Declaration, Declarations, Dependence};
 use tf_graph::NodeSet;
 use tf_plan_data::{Action, Plan};
 
-/// For each name the places of all resources that it needs, where an action makes or changes an object of it, in the order of
-/// the names.
+/// Returns for each name the indexes of all resources that it needs, if an action makes or changes an object of it, in
+/// the order of the names.
 pub(crate) fn needed_for(
     alloc: Global,
     plan: &Plan,
@@ -30,7 +30,7 @@ pub(crate) fn needed_for(
     needed_lists(alloc, names, &plan.dependence, &asked)
 }
 
-/// The resources of which some actions make or change objects, among so many names.
+/// Returns the resources whose objects some actions make or change, among `count` names.
 fn asked_for(alloc: Global, actions: &[Action], count: usize) -> Result<NodeSet, AllocError>
     ensures length { IfOk result (λ asked. length asked ≡ count) }
     ensures asked { IfOk result (λ asked. AllByRecursion (IsAsked asked) (map action_of actions.now)) }
@@ -42,7 +42,7 @@ fn asked_for(alloc: Global, actions: &[Action], count: usize) -> Result<NodeSet,
     Ok(asked)
 }
 
-/// Adds the resource of an action, where it makes or changes an object of a name.
+/// Adds the resource of an action, if the action makes or changes an object of a name.
 fn ask(asked: &mut NodeSet, count: usize, action: &Action)
     requires { length asked.old ≡ count }
     ensures length { length asked.new ≡ length asked.old }
@@ -54,12 +54,12 @@ fn ask(asked: &mut NodeSet, count: usize, action: &Action)
     }
 }
 
-/// For each name that is asked for, the places of all resources that it needs, in the order of the names. One pass over what
-/// needs what fills the lists of all.
+/// Returns for each requested name the indexes of all resources that it needs, in the order of the names. One pass over
+/// the table of dependence fills the lists of all.
 ///
 /// # Errors
 ///
-/// Only where memory runs out.
+/// Fails with `AllocError` if memory runs out.
 pub(crate) fn needed_lists(
     alloc: Global,
     names: &Declarations<'_>,
@@ -76,7 +76,7 @@ pub(crate) fn needed_lists(
     Ok(lists)
 }
 
-/// Adds a place to the list of each name that is asked for and needs the name there, where that is a resource.
+/// Adds an index to the list of each requested name that needs the name there, if that is a resource.
 fn note_needed(
     lists: &mut [Vec<usize>],
     names: &Declarations<'_>,

@@ -1,4 +1,4 @@
-//! Room for the report on each action.
+//! Buffers for the report on each action.
 
 ghost use Rattle.std.specs.Prelude.{◌≡◌, ◌+◌, ◌<◌, ◌^◌, ◌++◌, true, IfOk, codes, length, map, option_map, string_bytes};
 ghost use Rattle.std.specs.List.{AllByRecursion};
@@ -20,11 +20,11 @@ use tf_plan_data::{Action, Plan, Step, address_text};
 use tf_state_data::Record;
 use tf_state_next::{RecordInput, deposed_key};
 
-/// Room for the report on each action of a plan, in action order, by the names of the plan's configuration.
+/// Returns buffers for the report on each action of a plan, in action order, by the names of the plan's configuration.
 ///
 /// # Errors
 ///
-/// Only where memory runs out.
+/// Fails with `AllocError` if memory runs out.
 pub fn reserve_actions<'p>(
     alloc: Global,
     plan: &'p Plan,
@@ -44,7 +44,7 @@ pub fn reserve_actions<'p>(
     Ok(rooms)
 }
 
-/// Room for the report on an action, by the lists of the resources that others need.
+/// Returns the buffers for the report on an action, by the lists of the resources that others need.
 fn reserve_action<'p>(
     alloc: Global,
     plan: &'p Plan,
@@ -66,7 +66,7 @@ fn reserve_action<'p>(
     })
 }
 
-/// Where a diagnostic of an action stands.
+/// Returns the place of an action's diagnostics.
 fn place_for(alloc: Global, action: &Action) -> Result<String, AllocError>
     ensures { IfOk result (λ place. string_bytes place ≡ place_of (action_of action.now)) }
 {
@@ -77,14 +77,14 @@ fn place_for(alloc: Global, action: &Action) -> Result<String, AllocError>
     }
 }
 
-/// An address, and behind it ` (deposed KEY)`.
+/// Returns an address, followed by ` (deposed KEY)`.
 fn with_key(alloc: Global, address: &str, key: &str) -> Result<String, AllocError>
     ensures { IfOk result (λ place. string_bytes place ≡ address.now ++ (codes " (deposed " ++ (key.now ++ codes ")"))) }
 {
     format!(in alloc; "{address} (deposed {key})")
 }
 
-/// What an action is about.
+/// Returns the target of an action.
 fn target_for(
     alloc: Global,
     plan: &Plan,
@@ -123,7 +123,7 @@ fn target_for(
     }
 }
 
-/// What the record of an object of an action's instance is given, with the key of its old object if that becomes deposed.
+/// Returns the input for the record of an action's object, with the key of the old object if that becomes deposed.
 fn given_for(
     alloc: Global,
     plan: &Plan,
@@ -146,7 +146,8 @@ fn given_for(
     })
 }
 
-/// The key that the old object of a replace gets if it becomes deposed, which it can only where the resource is late.
+/// Returns the key that the old object of a replace gets if it becomes deposed. It can become deposed only if the
+/// resource is late.
 fn key_for(alloc: Global, plan: &Plan, action: &Action) -> Result<Option<String>, AllocError>
     requires replacement { is_replacement (action_of action.now).step ≡ true }
     requires serial { (plan_of plan.now).prior.serial + 1 < 2 ^ 32 }
@@ -162,8 +163,8 @@ fn key_for(alloc: Global, plan: &Plan, action: &Action) -> Result<Option<String>
     Ok(Some(key))
 }
 
-/// The key by the new serial that no deposed object of an action's instance has, by the records of its resource. No memory
-/// holds as many records as there are serials.
+/// Returns the first key from the new serial on that no deposed object of an action's instance has, by the records of
+/// its resource. No memory holds as many records as there are serials.
 fn key_among(
     alloc: Global,
     plan: &Plan,
@@ -179,7 +180,7 @@ fn key_among(
     deposed_key(alloc, plan.prior.serial() + 1, &action.key, records)
 }
 
-/// Whether the resource of a number is late.
+/// Checks whether the resource with a number is late.
 pub(crate) fn is_late(plan: &Plan, resource: usize) -> bool
     ensures { result ≡ (plan_of plan.now).late resource }
 {

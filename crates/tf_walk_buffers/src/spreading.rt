@@ -1,4 +1,4 @@
-//! A place in the lists of all places that a table leads to from it.
+//! Adds an index to the lists of all indexes that it reaches in a table.
 
 ghost use Rattle.std.specs.Prelude.{◌≡◌, ◌≤◌, ◌<◌, ◌==◌, ◌&&◌, ◌++◌, ◌∷◌, [], ℕ, IfOk, IfSome, OnOk, length, if◌then◌else◌};
 ghost use Rattle.tf_graph.specs.Closure.{reaches};
@@ -8,7 +8,7 @@ ghost use Rattle.tf_graph.specs.NodeSet.{has, IsFirstFrom};
 use std::alloc::{AllocError, Global};
 use tf_graph::{Closure, NodeSet};
 
-/// An empty list for each place.
+/// Returns `count` empty lists.
 pub(crate) fn empty_lists(alloc: Global, count: usize) -> Result<Vec<Vec<usize>>, AllocError>
     ensures count { IfOk result (λ lists. length lists.items ≡ count) }
     ensures rows { IfOk result (λ lists. (p : ℕ) → row lists.items p ≡ []) }
@@ -20,7 +20,7 @@ pub(crate) fn empty_lists(alloc: Global, count: usize) -> Result<Vec<Vec<usize>>
     Ok(lists)
 }
 
-/// Adds a place to the list of each place that is asked for and that a table leads to from it.
+/// Adds an index to the list of each requested index that it reaches in a table.
 pub(crate) fn spread(
     lists: &mut [Vec<usize>],
     table: &Closure,
@@ -40,7 +40,7 @@ pub(crate) fn spread(
     Ok(())
 }
 
-/// Adds a place to one of the lists.
+/// Adds an index to one of the lists.
 fn add(lists: &mut [Vec<usize>], at: usize, place: usize) -> Result<(), AllocError>
     requires { at < length lists.old }
     ensures count { length lists.new ≡ length lists.old }
@@ -51,8 +51,8 @@ fn add(lists: &mut [Vec<usize>], at: usize, place: usize) -> Result<(), AllocErr
     Ok(())
 }
 
-/// The first place from one on that is asked for and that a table leads to from a node. What lies between two that are asked
-/// for is passed over, as is what lies between two that are reached.
+/// Returns the first requested index from `from` on that a node reaches in a table. Skips what is between two requested
+/// indexes, and what is between two reached ones.
 fn next_common(table: &Closure, asked: &NodeSet, node: usize, from: usize) -> Option<usize>
     ensures first { IsFirstFrom (λ k. reaches table.now node k && has asked.now k) from result }
     ensures below { IfSome result (λ k. k < length asked.now) }

@@ -1,4 +1,4 @@
-//! The records of a prior state about which there is no action.
+//! The records of a prior state without an action.
 
 ghost use Rattle.std.specs.Prelude.{◌≡◌, ◌++◌, IfOk, OnOk, filter, length, map};
 ghost use Rattle.std.specs.List.{list_any};
@@ -13,23 +13,23 @@ use tf_plan_data::{Action, Plan, Step};
 use tf_plan_order::ResourceIndex;
 use tf_state_data::{Record, Resource};
 
-/// The record of an object about which there is no action and whose block stands.
+/// The record of an object without an action, whose block exists.
 #[derive(Drop)]
 pub(crate) struct UnchangedRecord<'p> {
     /// The address of its resource.
     pub(crate) addr: &'p ResourceAddr,
     /// The number of its resource, which is that of a name.
     pub(crate) number: usize,
-    /// What the prior state has of it.
+    /// Its record in the prior state.
     pub(crate) kept: &'p Record,
 }
 
-/// The records of a plan's prior state that stay, by the names of the plan's configuration. Each is looked up once, as that
-/// goes through all actions.
+/// Returns the records of a plan's prior state that stay, by the names of the plan's configuration. Each is looked up
+/// once, because that scans all actions.
 ///
 /// # Errors
 ///
-/// Only where memory runs out.
+/// Fails with `AllocError` if memory runs out.
 pub(crate) fn unchanged_records<'p>(
     alloc: Global,
     plan: &'p Plan,
@@ -70,7 +70,7 @@ fn add_resource<'p>(
     }
 }
 
-/// Adds the records that stay, of a resource whose block stands.
+/// Adds the records that stay, of a resource whose block exists.
 fn add_records<'p>(
     found: &mut Vec<UnchangedRecord<'p>>,
     plan: &Plan,
@@ -89,14 +89,14 @@ fn add_records<'p>(
     Ok(())
 }
 
-/// Whether a record of an object of the resource of a number stays.
+/// Checks whether a record of the resource with a number stays.
 fn stays(plan: &Plan, number: usize, kept: &Record) -> bool
     ensures { result ≡ stays (plan_of plan.now) number (record_of kept.now) }
 {
     kept.id.deposed.is_none() && !is_any_about(plan.actions.as_slice(), number, &kept.id.key)
 }
 
-/// Whether an action is about the current object of an instance.
+/// Checks whether any action is about the current object of an instance.
 fn is_any_about(actions: &[Action], number: usize, key: &InstanceKey) -> bool
     ensures { result ≡ list_any (is_about number (instance_key_of key.now)) (map action_of actions.now) }
 {
@@ -108,14 +108,14 @@ fn is_any_about(actions: &[Action], number: usize, key: &InstanceKey) -> bool
     false
 }
 
-/// Whether an action is about the current object of an instance.
+/// Checks whether an action is about the current object of an instance.
 fn is_about(number: usize, key: &InstanceKey, action: &Action) -> bool
     ensures { result ≡ is_about number (instance_key_of key.now) (action_of action.now) }
 {
     action.resource == number && is_current(&action.step) && action.key == *key
 }
 
-/// Whether a step is about the current object of an instance.
+/// Checks whether a step is about the current object of an instance.
 fn is_current(step: &Step) -> bool
     ensures { result ≡ is_none (deposed_key (step_of step.now)) }
 {

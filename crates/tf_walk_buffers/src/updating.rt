@@ -1,4 +1,4 @@
-//! The records of objects for which nothing is planned are given anew what their resources need, and whether those are late.
+//! The metadata updates of objects for which nothing is planned: what their resources need, and whether those are late.
 
 ghost use Rattle.std.specs.Prelude.{◌≡◌, ◌<◌, None, IfOk, length, map};
 ghost use Rattle.std.specs.List.{AllByRecursion};
@@ -18,12 +18,12 @@ use tf_graph::NodeSet;
 use tf_plan_data::Plan;
 use tf_state_next::{MetadataUpdate, RecordInput};
 
-/// What is given anew, by the names of the plan's configuration: the records of the objects without an action whose blocks
-/// stand. Where there is none, nothing is made.
+/// Returns the metadata updates of a plan, by the names of its configuration: those of the records without an action
+/// whose blocks exist. If there are no such records, nothing is made.
 ///
 /// # Errors
 ///
-/// Only where memory runs out.
+/// Fails with `AllocError` if memory runs out.
 pub fn metadata_updates_for<'p>(
     alloc: Global,
     plan: &'p Plan,
@@ -39,7 +39,7 @@ pub fn metadata_updates_for<'p>(
     updates_of(alloc, plan, names, unchanged.as_slice())
 }
 
-/// What records that stay are given anew. What their resources need is listed for all of them together.
+/// Returns the metadata updates of records that stay. What their resources need is listed for all of them together.
 fn updates_of<'p>(
     alloc: Global,
     plan: &Plan,
@@ -60,7 +60,7 @@ fn updates_of<'p>(
     Ok(found)
 }
 
-/// The numbers of the resources of some records, among so many names.
+/// Returns the numbers of the resources of some records, among `count` names.
 fn asked_for(
     alloc: Global,
     unchanged: &[UnchangedRecord<'_>],
@@ -77,7 +77,7 @@ fn asked_for(
     Ok(asked)
 }
 
-/// What a record is given anew.
+/// Returns the metadata update of a record.
 fn update_of<'p>(
     alloc: Global,
     plan: &Plan,

@@ -1,4 +1,4 @@
-//! What names stand for in an apply, where resources stand for the objects that their providers answered; and what outputs are then.
+//! The values of names in an apply, with the objects that providers returned for resources, and the values of outputs.
 #![tactic(auto)]
 
 mod named;

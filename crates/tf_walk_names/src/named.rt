@@ -1,4 +1,4 @@
-//! What the object of an instance is worked out from.
+//! The names that an instance's object is computed from.
 
 ghost use Rattle.std.specs.Prelude.{◌≡◌, IfOk};
 ghost use Rattle.tf_expand_keys.specs.Words.{block_at, ResourceAddrView, names_in, places, repetition_of};
@@ -8,8 +8,8 @@ use std::alloc::{AllocError, Global};
 use tf_config_data::{Block, Repetition};
 use tf_config_names::Declarations;
 
-/// The places of what `for_each` and the arguments of a block name, as often as they do. What isn't declared is left
-/// out, and so are `count` and `depends_on`: neither is evaluated for one instance.
+/// Returns the indexes of the names in `for_each` and the arguments of a block, as often as they occur. Leaves out
+/// names that aren't declared, and also `count` and `depends_on`: neither is evaluated for one instance.
 pub fn named_for_instance(
     alloc: Global,
     names: &Declarations<'_>,
@@ -25,7 +25,7 @@ pub fn named_for_instance(
     Ok(named)
 }
 
-/// The places of what `for_each` names.
+/// Returns the indexes of the names in `for_each`.
 fn named_in_for_each(
     alloc: Global,
     names: &Declarations<'_>,

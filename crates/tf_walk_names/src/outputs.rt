@@ -1,4 +1,4 @@
-//! What outputs are after an apply.
+//! The values of outputs after an apply.
 
 ghost use Rattle.std.specs.Prelude.{IfOk};
 ghost use Rattle.tf_expand_keys.specs.Words.{Answers, entries_view, meaning, names_in, shapes_of, resolved_names_of};
@@ -13,17 +13,17 @@ use tf_expr_eval::{EvalFault, Scope, eval_expr};
 use tf_expr_syntax::Expr;
 use tf_value_data::{Value, with_lists};
 
-/// What an output is after an apply, or the fault of its expression: what the expression means where resources stand
-/// for what their providers answered, with the list of its texts in place of each set. `shapes` says of the place of
-/// each name how its instances stand together. No local is evaluated, and no object copied, that the expression doesn't
-/// name, directly or through locals.
+/// Returns the value of an output after an apply, or the fault of its expression. The value is what the expression
+/// means if resources have the objects that their providers returned, with the list of its texts in place of each set.
+/// `shapes` has for each name's index the keys of its instances. Evaluates only locals, and copies only objects, that
+/// the expression names directly or through locals.
 ///
-/// `kept` has what names stand for so far, by place, none at first, and then also what they stand for that the expression
-/// names: outputs that share it have each local evaluated once.
+/// `kept` has the values of names so far, by index, and is empty at first. The values of the names in the expression
+/// are added to it, so outputs that share it have each local evaluated once.
 ///
 /// # Errors
 ///
-/// Only where memory runs out. What stands in `kept` is right then too, and may be more than before.
+/// Fails with `AllocError` if memory runs out. What `kept` holds is right then too, and may be more than before.
 pub fn output_value<R: Results>(
     alloc: Global,
     declared: &Module,
@@ -49,7 +49,7 @@ pub fn output_value<R: Results>(
     listed_value(alloc, expr, &scope)
 }
 
-/// What an expression means, with the list of its texts in place of each set.
+/// Returns what an expression means, with the list of its texts in place of each set.
 fn listed_value<S: Scope>(
     alloc: Global,
     expr: &Expr,

@@ -1,4 +1,4 @@
-//! What names stand for in an apply.
+//! The values of names in an apply.
 
 ghost use Rattle.std.specs.List.{AllByRecursion, list_all};
 ghost use Rattle.std.specs.Prelude.{◌≡◌, ◌<◌, ◌≤◌, ℕ, IfOk, MatchBool, OnErr, OnOk, true, is_some, length, set, Contains};
@@ -12,7 +12,7 @@ use crate::sharing::{is_missing, stands};
 use std::alloc::{AllocError, Global};
 use tf_expand_keys::{ExpandedValues, InstanceKeys, Module, Resolved, resolved_at};
 
-/// The names of a configuration in an apply, where resources stand for what their providers answered.
+/// The names of a configuration in an apply, with what providers returned for the resources.
 #[derive(Drop)]
 pub(crate) struct RequestObjects<'a, 'n, R> {
     pub(crate) alloc: Global,
@@ -22,8 +22,8 @@ pub(crate) struct RequestObjects<'a, 'n, R> {
 }
 
 impl<R: Results> RequestObjects<'_, '_, R> {
-    /// Adds what resources stand for where nothing stands so far. No other name is looked at: a resource stands for its answered
-    /// objects, whatever it refers to.
+    /// Adds the values of these resources, except those that have one so far. Looks at no other name: a resource's
+    /// value is its returned objects, whatever it refers to.
     pub(crate) fn add_resources(
         &self,
         kept: &mut Vec<Resolved>,
@@ -47,7 +47,7 @@ impl<R: Results> RequestObjects<'_, '_, R> {
         Ok(())
     }
 
-    /// What the name at a place stands for, by what names stand for so far.
+    /// Returns the value of the name at an index, by the values of names so far.
     fn resolved_at(&self, kept: &[Resolved], place: usize) -> Result<Resolved, AllocError>
         requires { place < length (names_in self.now.declared.now.names.now) }
         ensures { IfOk result (λ resolved. resolved_of resolved
@@ -64,7 +64,7 @@ impl<R: Results> RequestObjects<'_, '_, R> {
         resolved_at(self.alloc, &stage, self.declared, kept, place)
     }
 
-    /// Adds what each wanted name stands for where nothing stands so far.
+    /// Adds the value of each wanted name that has none so far.
     pub(crate) fn add_wanted(
         &self,
         kept: &mut Vec<Resolved>,
@@ -87,7 +87,7 @@ impl<R: Results> RequestObjects<'_, '_, R> {
         Ok(())
     }
 
-    /// Adds what the name at a place stands for, by what names stand for so far, where that is missing.
+    /// Adds the value of the name at an index, by the values of names so far, if it is missing.
     fn add_resolved(
         &self,
         kept: &mut Vec<Resolved>,

@@ -9,7 +9,7 @@ ghost use Rattle.tf_walk_names.specs.Resolving.{is_resource};
 use tf_config_names::Declaration;
 use tf_expand_keys::Module;
 
-/// Whether a resource is at each of some places.
+/// Checks whether the name at each of these indexes is a resource.
 pub(crate) fn are_resources(declared: &Module, places: &[usize]) -> bool
     requires { AllByRecursion (λ n. n < length (names_in declared.now.names.now)) places.now }
     ensures { result ≡ list_all (λ n. is_resource (meant_at (names_in declared.now.names.now) n)) places.now }
@@ -22,7 +22,7 @@ pub(crate) fn are_resources(declared: &Module, places: &[usize]) -> bool
     true
 }
 
-/// Whether a name is a resource.
+/// Checks whether a name is a resource.
 fn is_resource(named: Declaration<'_>) -> bool
     ensures { result ≡ is_resource (Some (declaration_of named.entry).meant) }
 {
@@ -32,7 +32,7 @@ fn is_resource(named: Declaration<'_>) -> bool
     }
 }
 
-/// A place past all of these, of so many.
+/// Returns an index after all of these, which are below `count`.
 pub(crate) fn past_last(places: &[usize], count: usize) -> usize
     requires { AllByRecursion (λ n. n < count) places.now }
     ensures { AllByRecursion (λ n. n < result) places.now }

@@ -1,4 +1,4 @@
-//! The objects that providers answered.
+//! The objects that providers returned.
 
 ghost use Rattle.std.specs.Prelude.{◌≡◌, ℕ, IfOk, Some};
 ghost use Rattle.tf_config_address.specs.ObjectId.{InstanceKeyView, instance_key_of};
@@ -10,21 +10,21 @@ use tf_expand_keys::{Objects, ResourceInScope};
 use tf_expr_eval::Scope;
 use tf_value_data::Value;
 
-/// The objects that providers answered for the instances of an apply. Only those of resources that what is worked out
-/// names, directly or through locals, are asked for; any value may stand for the others.
+/// The objects that providers returned for the instances of an apply. They are requested only for resources that the
+/// evaluated expressions name, directly or through locals. Any value may be given for the others.
 pub trait Results {
     ghost objects: { Self → ℕ → InstanceKeyView → Tree };
 
-    /// The object of an instance, copied, by the place of its resource's name.
+    /// Returns a copy of an instance's object, by the index of its resource's name.
     ///
     /// # Errors
     ///
-    /// Only where memory runs out.
+    /// Fails with `AllocError` if memory runs out.
     fn object(&self, alloc: Global, place: usize, key: &InstanceKey) -> Result<Value, AllocError>
         ensures { IfOk result (λ value. tree_of value ≡ objects self.now place (instance_key_of key.now)) };
 }
 
-/// Answered objects as those of the apply's stage.
+/// The returned objects, as the objects of the apply's stage.
 #[derive(Drop)]
 pub(crate) struct InstanceAnswers<'a, R> {
     pub results: &'a R,

@@ -1,4 +1,4 @@
-//! What names stand for in an apply, worked out once for many that name them.
+//! The values of names in an apply, computed once for all that share them.
 
 ghost use Rattle.std.specs.List.{AllByRecursion};
 ghost use Rattle.std.specs.Prelude.{◌≡◌, ◌<◌, ◌≤◌, ◌&&◌, ℕ, OnOk, true, is_some, length, not};
@@ -12,8 +12,8 @@ use crate::wanted::wanted_by;
 use std::alloc::{AllocError, Global};
 use tf_expand_keys::{InstanceKeys, Module, Resolved, all_stand};
 
-/// Adds what the names at some places stand for, and all that is wanted for them, to what names stand for so far. What
-/// stands already isn't worked out again. Where memory runs out, what was worked out by then stays.
+/// Adds the values of the names at some indexes, and of all names that are wanted for them, to the values so far. A
+/// value that is there already isn't computed again. If memory runs out, the values computed by then stay.
 pub fn add_resolved_names<R: Results>(
     alloc: Global,
     declared: &Module,
@@ -47,7 +47,7 @@ pub fn add_resolved_names<R: Results>(
     applied.add_wanted(kept, wanted.as_slice())
 }
 
-/// Makes room for so many names; nothing stands at the places that are added.
+/// Makes the list at least `count` long. The added places hold no value.
 fn fill(kept: &mut Vec<Resolved>, count: usize) -> Result<(), AllocError>
     ensures room { OnOk result (count ≤ length kept.new.items) }
     ensures same { (n : ℕ) → resolved_names_of kept.new.items n ≡ resolved_names_of kept.old.items n }
@@ -58,21 +58,21 @@ fn fill(kept: &mut Vec<Resolved>, count: usize) -> Result<(), AllocError>
     Ok(())
 }
 
-/// Whether a place is wanted and nothing stands there.
+/// Checks whether an index is wanted and has no value.
 pub(crate) fn is_missing(kept: &[Resolved], wanted: &[bool], place: usize) -> bool
     ensures { result ≡ has wanted.now place && not (is_some (resolved_names_of kept.now place)) }
 {
     contains(wanted, place) && !stands(kept, place)
 }
 
-/// Whether a place is wanted.
+/// Checks whether an index is wanted.
 fn contains(wanted: &[bool], place: usize) -> bool
     ensures { result ≡ has wanted.now place }
 {
     place < wanted.len() && wanted[place]
 }
 
-/// Whether something stands at a place.
+/// Checks whether there is a value at an index.
 pub(crate) fn stands(kept: &[Resolved], place: usize) -> bool
     ensures { result ≡ is_some (resolved_names_of kept.now place) }
 {

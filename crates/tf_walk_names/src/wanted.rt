@@ -9,8 +9,8 @@ use std::alloc::{AllocError, Global};
 use tf_config_names::Declaration;
 use tf_expand_keys::{Module, mark, none_marked};
 
-/// For each place, whether the name there is wanted: it is at one of these places, or the expression of a wanted local
-/// names it.
+/// Returns for each index whether the name there is wanted: it is at one of these indexes, or the expression of a
+/// wanted local names it.
 pub(crate) fn wanted_by(
     alloc: Global,
     declared: &Module,
@@ -29,7 +29,7 @@ pub(crate) fn wanted_by(
     Ok(wanted)
 }
 
-/// Marks what the expression at a place names, where a marked local stands there.
+/// Marks the names in the expression at an index, if that is the index of a marked local.
 fn mark_named(declared: &Module, wanted: &mut [bool], place: usize)
     requires length { length wanted.old ≡ length (names_in declared.now.names.now) }
     requires place { place < length (names_in declared.now.names.now) }

@@ -1,4 +1,4 @@
--- Rooms of outputs.
+-- Buffers of outputs.
 use Rattle.std.specs.Prelude.{◌≡◌, List, [], ◌∷◌, string_bytes}
 use Rattle.std.specs.List.{AllByRecursion}
 use Rattle.tf_config_data.specs.Names.{NameView, places}
@@ -11,7 +11,7 @@ abbrev pub outputs_in : List OutputBuffers → Entries
 outputs_in [] = no_entries
 outputs_in (room ∷ rooms) = entry (string_bytes room.name) (tree_of room.expr.now) (outputs_in rooms)
 
--- a room has the places of the names that its output names
+-- a buffer has the indexes of the names in its output's expression
 abbrev pub HasPlaces : List NameView → OutputBuffers → Type 0
 HasPlaces names room = room.places.items ≡ places names (named_by (tree_of room.expr.now))
 

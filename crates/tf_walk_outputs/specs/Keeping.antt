@@ -1,4 +1,4 @@
--- One output after another is told of and saved.
+-- How one output is reported and saved.
 use Rattle.std.specs.Prelude.{◌≡◌, ℕ, List, ⊤, ◌⊎◌}
 use Rattle.tf_walk_outputs.specs.Outputs.{OutputResultView, not_evaluated, excused, valued, faulted, end_of, with_output}
 use Rattle.tf_walk_outputs.specs.declared.ends.EvaluatedOutput.{EvaluatedOutput}
@@ -7,24 +7,24 @@ use Rattle.tf_walk_outputs.specs.declared.ends.OutputResult.{OutputResult}
 use Rattle.tf_value_data.specs.Stored.{MayBeStored}
 use Rattle.tf_value_data.specs.Tree.{Entries, tree_of}
 
--- what came of an output, without where its value lies in memory
+-- an output's outcome as plain data
 abbrev pub done_of : EvaluatedOutput → OutputResultView
 done_of NotEvaluated = not_evaluated
 done_of NoMemory = excused
 done_of (Faulted why) = faulted why
 done_of (Valued object) = valued (tree_of object.value)
 
--- a value may be stored
+-- the value, if there is one, may be stored
 abbrev pub MayBeSaved : OutputResultView → Type 0
 MayBeSaved (valued t) = MayBeStored t
 MayBeSaved _ = ⊤
 
--- what comes of an output in the end: the same, or, where there is no memory for the entry of its value, it is excused
+-- the final outcome of an output: the same, or excused if memory runs out for the entry of its value
 abbrev pub IsSameOrExcused : OutputResultView → OutputResultView → Type 0
 IsSameOrExcused (valued t) kept = (kept ≡ valued t) ⊎ (kept ≡ excused)
 IsSameOrExcused done kept = kept ≡ done
 
--- an output is told of and saved, by what came of it
+-- an output is reported and saved by its outcome
 pub record IsKept (name : List ℕ) (done : OutputResultView) (end : OutputResult) (before after : Entries) : Type 0 where
   pub kept : OutputResultView
   pub same : IsSameOrExcused done kept

@@ -1,4 +1,4 @@
--- What becomes of the outputs after an apply.
+-- The outcomes of outputs after an apply.
 use Rattle.std.specs.Prelude.{◌≡◌, ◌||◌, ℕ, Bool, true, false, if◌then◌else◌, List, [], ◌∷◌, map, Ok, Err, MatchBool, ⊤}
 use Rattle.std.specs.Str.{bytes_eq}
 use Rattle.tf_config_address.specs.ObjectId.{InstanceKeyView}
@@ -19,37 +19,38 @@ use Rattle.tf_value_data.specs.Measure.{is_within}
 use Rattle.tf_value_data.specs.Nulls.{with_nulls}
 use Rattle.tf_value_data.specs.Tree.{Tree, null, Entries, no_entries, entry, put}
 
--- What comes of an output: it isn't evaluated anew, memory is refused for it, it has a value, or a fault.
+-- The outcome of an output: it isn't evaluated, memory runs out for it, it has a value, or it has a fault.
 pub data OutputResultView : Type 0 where
   not_evaluated : OutputResultView
   excused : OutputResultView
   valued : Tree → OutputResultView
   faulted : EvalFault → OutputResultView
 
--- What comes of an answer: a value beyond the limits is a fault, and null is saved for what isn't known.
+-- The outcome for an expression's answer: a value beyond the limits is a fault, and null is saved for each unknown
+-- part.
 abbrev pub done_with : Answer → OutputResultView
 done_with (Ok t) = if is_within t then valued (with_nulls t) else faulted TooLarge
 done_with (Err why) = faulted why
 
--- What comes of an output's expression: names stand for something in the apply, and by whatever they may stand for there, this is
--- what the expression means, with lists in place of sets.
+-- The outcome of an output's expression. The names have values in the apply. For all values that they may have there,
+-- the outcome is that of the expression's meaning, with lists in place of sets.
 pub record IsMeant (variables : Entries) (names : List NameView) (shapes : ℕ → InstanceKeysView) (objects : ℕ → InstanceKeyView → Tree) (e : expr.Tree) (done : OutputResultView) : Type 0 where
   pub resolved_names : ℕ → ResolvedView
   pub are_standings : AreResolvedNames (applying shapes objects) variables names resolved_names
   pub means : (others : ℕ → ResolvedView) → AreResolvedNames (applying shapes objects) variables names others → done ≡ done_with (without_sets (meaning (environment variables names others) e))
 
--- What comes of an output that is evaluated anew: what its expression means; or memory is refused.
+-- The outcome of an evaluated output: what its expression means, or excused because memory runs out.
 abbrev pub IsEvaluated : Entries → List NameView → (ℕ → InstanceKeysView) → (ℕ → InstanceKeyView → Tree) → expr.Tree → OutputResultView → Type 0
 IsEvaluated variables names shapes objects e not_evaluated = ⊥
 IsEvaluated variables names shapes objects e excused = ⊤
 IsEvaluated variables names shapes objects e done = IsMeant variables names shapes objects e done
 
--- An output is evaluated anew exactly where each name that it names is settled.
+-- An output is evaluated exactly if each name in it is settled.
 abbrev pub IsOutputDone : Entries → List NameView → (ℕ → InstanceKeysView) → (ℕ → InstanceKeyView → Tree) → (ℕ → Bool) → expr.Tree → OutputResultView → Type 0
 IsOutputDone variables names shapes objects settled e done =
     MatchBool (names_are_settled names settled e) (IsEvaluated variables names shapes objects e done) (done ≡ not_evaluated)
 
--- what comes of each output, in byte order of their names
+-- the outcome of each output, in byte order of their names
 abbrev pub AreOutputsDone : Entries → List NameView → (ℕ → InstanceKeysView) → (ℕ → InstanceKeyView → Tree) → (ℕ → Bool) → expr.Entries → List OutputResultView → Type 0
 AreOutputsDone variables names shapes objects settled expr.no_entries [] = ⊤
 AreOutputsDone variables names shapes objects settled expr.no_entries (d ∷ ds) = ⊥
@@ -61,13 +62,13 @@ abbrev pub is_null : Tree → Bool
 is_null null = true
 is_null _ = false
 
--- entries without the one of a name, where there is one
+-- entries without the one of a name, if there is one
 abbrev pub without : List ℕ → Entries → Entries
 without name no_entries = no_entries
 without name (entry k t es) = if bytes_eq name k then es else entry k t (without name es)
 
--- A value is saved under the output's name in place of what was there; where it is null there is no entry. Without a value
--- what was there stays.
+-- A value is saved under the output's name, in place of an earlier entry. If it is null there is no entry. Without a
+-- value the earlier entry stays.
 abbrev pub with_output : List ℕ → OutputResultView → Entries → Entries
 with_output name (valued t) found = if is_null t then without name found else put name t found
 with_output name _ found = found
@@ -81,28 +82,28 @@ abbrev pub is_declared : expr.Entries → List ℕ → Bool
 is_declared expr.no_entries name = false
 is_declared (expr.entry k e es) name = bytes_eq name k || is_declared es name
 
--- prior entries without those of outputs that aren't declared any more
+-- the prior entries of outputs that are still declared
 abbrev pub kept_entries : expr.Entries → Entries → Entries
 kept_entries es no_entries = no_entries
 kept_entries es (entry k t found) = if is_declared es k then entry k t (kept_entries es found) else kept_entries es found
 
--- The outputs after an apply, in byte order of their names: of each declared one the entry of its value, or its prior entry
--- where it has no value.
+-- The outputs after an apply, in byte order of their names: for each declared one the entry of its value, or its prior
+-- entry if it has no value.
 abbrev pub outputs_after : Entries → expr.Entries → List OutputResultView → Entries
 outputs_after prior es ds = with_outputs es ds (kept_entries es prior)
 
--- those after the first apply
+-- the outputs after the first apply
 abbrev pub saved_outputs : expr.Entries → List OutputResultView → Entries
 saved_outputs es ds = with_outputs es ds no_entries
 
--- what is told of an output
+-- the reported outcome of an output
 abbrev pub end_of : OutputResultView → OutputResult
 end_of not_evaluated = NotEvaluated
 end_of excused = NoMemory
 end_of (valued t) = Valued
 end_of (faulted why) = Faulted why
 
--- What comes of each output, with what is told of it and what is saved beside the entries that were kept.
+-- Each output has an outcome. These are reported, and saved into the entries that were kept.
 pub record AreOutputsEnded (variables : Entries) (names : List NameView) (shapes : ℕ → InstanceKeysView) (objects : ℕ → InstanceKeyView → Tree) (settled : ℕ → Bool) (kept : Entries) (outputs : expr.Entries) (ends : List OutputResult) (saved : Entries) : Type 0 where
   pub dones : List OutputResultView
   pub each : AreOutputsDone variables names shapes objects settled outputs dones

@@ -1,4 +1,4 @@
-//! Outputs are worked out after an apply.
+//! The evaluation of outputs after an apply.
 
 ghost use Rattle.std.specs.Prelude.{◌≡◌, ◌≤◌, [], IfOk, Ok, length, true, vec_capacity};
 ghost use Rattle.tf_expand_keys.specs.Words.{entries_view, has, has_no_set, IsTable, named_by, names_in, shapes_of, resolved_names_of, tree_of};
@@ -23,11 +23,11 @@ use tf_state_data::Object;
 use tf_value_data::{Value, is_within_limits, with_nulls};
 use tf_walk_names::{Results, output_value};
 
-/// What comes of all outputs: their values by name, without those that are null, and, in `ends`, what is told of each,
-/// in the order of `rooms`. Where an output has no value, its entry among those that are `kept` stays. `settled` says of the
-/// place of each name whether it is settled, `shapes` how its instances stand together. It can't fail: where memory is
-/// refused for an output, that is told of it. Outputs share what names stand for, so that each local is evaluated once; where
-/// memory runs out over the value of one, that is let go, and the output is tried by itself.
+/// Evaluates all outputs. Returns their values by name, without null ones, and puts the outcome of each output into
+/// `ends`, in the order of `rooms`. An output without a value keeps its entry in `kept`. `settled` says for each name's
+/// index whether the name is settled, and `shapes` has the keys of its instances. This function can't fail: if memory
+/// runs out for an output, that is the output's outcome. Outputs share the values of names, so each local is evaluated
+/// once. If memory runs out for a value, the shared values are dropped, and the output is evaluated again by itself.
 pub fn renew_outputs<R: Results>(
     alloc: Global,
     declared: &Module,
@@ -57,7 +57,7 @@ pub fn renew_outputs<R: Results>(
     outputs
 }
 
-/// What comes of one output, by the places of what it names. `stood` has what names stand for so far.
+/// Evaluates one output, by the indexes of the names in it. `stood` has the values of names so far.
 fn end_output<R: Results>(
     alloc: Global,
     declared: &Module,
@@ -88,8 +88,8 @@ fn end_output<R: Results>(
     }
 }
 
-/// The value of an output, or the fault of its expression, by what names stand for so far. Where memory runs out, and anything
-/// stood, that is let go, and the output is tried by itself.
+/// Returns the value of an output, or the fault of its expression, by the values of names so far. If memory runs out
+/// and there were such values, drops them and evaluates the output again by itself.
 fn shared_value<R: Results>(
     alloc: Global,
     declared: &Module,
@@ -115,7 +115,8 @@ fn shared_value<R: Results>(
     }
 }
 
-/// What comes of an output with a value: that value, with null for what isn't known.
+/// Returns the outcome of an output with a value: `TooLarge` if the value is beyond the limits, or else the value with
+/// null for each unknown part.
 fn within_limits(value: Value) -> EvaluatedOutput
     requires { has_no_set (tree_of value) ≡ true }
     ensures done { IsSameOrExcused (done_with (Ok (tree_of value))) (done_of result) }

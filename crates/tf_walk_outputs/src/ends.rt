@@ -1,14 +1,14 @@
-//! What is told of outputs.
+//! The outcomes of outputs.
 
 use tf_expr_eval::EvalFault;
 use tf_state_data::Object;
 
-/// What came of one output.
+/// The outcome of one output.
 #[derive(Clone, Copy, Debug, PartialEq, Eq, Drop)]
 pub enum OutputResult {
-    /// It wasn't evaluated anew, as a name that it names isn't settled.
+    /// It wasn't evaluated, because a name in it isn't settled.
     NotEvaluated,
-    /// Memory was refused for its value or its entry.
+    /// Memory ran out for its value or its entry.
     NoMemory,
     /// Its expression has a fault, or its value is beyond the limits.
     Faulted(EvalFault),
@@ -16,7 +16,7 @@ pub enum OutputResult {
     Valued,
 }
 
-/// What came of one output, with its value.
+/// The outcome of one output, with its value.
 #[derive(Drop)]
 pub(crate) enum EvaluatedOutput {
     NotEvaluated,

@@ -1,4 +1,4 @@
-//! Values of outputs are put among those that are saved.
+//! Stores the values of outputs among those that are saved.
 
 ghost use Rattle.std.specs.Prelude.{◌≡◌, IfOk, OnOk, if◌then◌else◌, string_bytes};
 ghost use Rattle.tf_walk_outputs.specs.Keeping.{IsKept, done_of};
@@ -14,8 +14,8 @@ use tf_expr_syntax::Expr;
 use tf_state_data::Object;
 use tf_value_data::Value;
 
-/// Puts an output's value under its name, in place of what was there, where it has one, and tells what came of the output.
-/// Where there is no memory for the entry, that is told.
+/// Stores an output's value under its name, if it has one, in place of an earlier entry, and returns the output's
+/// outcome. That is `NoMemory` if memory runs out for the entry.
 pub(crate) fn keep(
     outputs: &mut BTreeMap<String, Object>,
     name: String,
@@ -31,7 +31,7 @@ pub(crate) fn keep(
     }
 }
 
-/// Puts a value under a name, in place of what was there; a null takes that away.
+/// Stores a value under a name, in place of an earlier entry. A null value removes that entry.
 fn put_value(outputs: &mut BTreeMap<String, Object>, name: String, object: Object) -> OutputResult
     ensures { IsKept (string_bytes name) (valued (tree_of object.value)) result (outputs_of outputs.old.entries) (outputs_of outputs.new.entries) }
 {
@@ -51,12 +51,12 @@ fn is_null(value: &Value) -> bool
     matches!(value, Value::Null)
 }
 
-/// The entries of a prior state's outputs that are still declared, for `renew_outputs`. They have to be had before the first
-/// call of a provider.
+/// Returns the entries of a prior state's outputs that are still declared, for `renew_outputs`. Has to be called before
+/// the first call of a provider.
 ///
 /// # Errors
 ///
-/// Only where memory runs out.
+/// Fails with `AllocError` if memory runs out.
 pub fn kept_outputs(
     alloc: Global,
     prior: &BTreeMap<String, Object>,
@@ -72,7 +72,7 @@ pub fn kept_outputs(
     Ok(kept)
 }
 
-/// Puts a prior entry among those that are kept, where its output is declared.
+/// Adds a copy of a prior entry to those that are kept, if its output is declared.
 fn keep_declared(
     kept: &mut BTreeMap<String, Object>,
     outputs: &BTreeMap<String, Expr>,

@@ -1,8 +1,9 @@
-//! What becomes of a configuration's outputs after an apply.
+//! The evaluation of a configuration's outputs after an apply.
 //!
-//! An output is evaluated anew exactly where each name that it names is settled; where it has no value then, the entry of the
-//! prior state stays. By then providers were called, so nothing here may fail: room for what is told, and for the names, is had
-//! before the first call (`reserve_outputs`).
+//! An output is evaluated exactly if each name in it is settled. An output without a value keeps its entry of the prior
+//! state. Providers were called by then, so nothing here may fail: memory for the outputs' names, and for the indexes
+//! of the names in their expressions, is reserved before the first call (`reserve_outputs`), and so is the caller's
+//! list of outcomes.
 #![tactic(auto)]
 
 mod ending;

@@ -1,4 +1,4 @@
-//! Room for what comes of outputs.
+//! Buffers for outputs.
 
 ghost use Rattle.std.specs.List.{AllByRecursion};
 ghost use Rattle.std.specs.Prelude.{◌≡◌, IfOk, string_bytes};
@@ -11,23 +11,23 @@ use std::collections::BTreeMap;
 use tf_config_names::Declarations;
 use tf_expr_syntax::Expr;
 
-/// Room for what comes of one output: its name for the entry, and what it is worked out from. It has to be had before
-/// the first call of a provider.
+/// The buffers for one output: its name, for the entry, and what it is evaluated from. They have to be made before the
+/// first call of a provider.
 #[derive(Drop)]
 pub struct OutputBuffers<'a> {
     /// The output's name.
     pub name: String,
-    /// What the output is.
+    /// The output's expression.
     pub expr: &'a Expr,
-    /// The places of the names that the expression names, as often as it does.
+    /// The indexes of the names in the expression, as often as they occur.
     pub places: Vec<usize>,
 }
 
-/// Room for what comes of each output, in byte order of their names.
+/// Returns buffers for each output, in byte order of their names.
 ///
 /// # Errors
 ///
-/// Only where memory runs out.
+/// Fails with `AllocError` if memory runs out.
 pub fn reserve_outputs<'a>(
     alloc: Global,
     names: &Declarations<'_>,
@@ -43,7 +43,7 @@ pub fn reserve_outputs<'a>(
     Ok(rooms)
 }
 
-/// Room for what comes of an output.
+/// Returns the buffers for an output.
 fn reserve_output<'a>(
     alloc: Global,
     names: &Declarations<'_>,

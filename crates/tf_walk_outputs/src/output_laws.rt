@@ -3,14 +3,14 @@
 
 ghost use Rattle.tf_walk_outputs.specs.OutputLaws.{EvaluatedWhereGood, OutputsAreOne, SettledAreOne, SettledExist};
 
-/// Where no name needs itself, some names are settled, and they are one.
+/// States that, if no name needs itself, there is exactly one set of settled names.
 pub fn settled_are_one()
     ensures one { SettledAreOne }
     ensures exist { SettledExist }
 {}
 
-/// An output is evaluated anew exactly where all actions are good of each resource that it names itself or through
-/// locals. What comes of it is then one, unless memory is refused.
+/// States that an output is evaluated exactly if all creates and updates are good of each resource that it names itself
+/// or through locals. The output then has at most one outcome, unless memory runs out.
 pub fn outputs_are_one()
     ensures good { EvaluatedWhereGood }
     ensures one { OutputsAreOne }

@@ -7,9 +7,9 @@ ghost use Rattle.tf_walk_outputs.specs.Settled.{AreSettled, AreSettledAmong, all
 use tf_config_names::Declaration;
 use tf_expand_keys::Module;
 
-/// Works out which names are settled, by place: a resource where all its creates and updates are good, a local where each name that
-/// it refers to directly is. `good` says of the place of each resource whether all its creates and updates are good; one without
-/// actions is. Takes no memory.
+/// Computes which names are settled, by index. A resource is settled if all its creates and updates are good, and a
+/// local if each name that it refers to directly is settled. `good` says for each resource's index whether all its
+/// creates and updates are good. A resource without actions counts as good. Takes no memory.
 pub fn settle_names(declared: &Module, good: &[bool], settled: &mut [bool])
     requires good { length good.now ≡ length (names_in declared.now.names.now) }
     requires settled { length settled.old ≡ length (names_in declared.now.names.now) }
@@ -18,7 +18,7 @@ pub fn settle_names(declared: &Module, good: &[bool], settled: &mut [bool])
     settle_in(declared, declared.parts.dependence.order(), good, settled);
 }
 
-/// The same, of the names in a list in which each stands after all that it refers to.
+/// Like [`settle_names`], for the names in a list in which each comes after all that it refers to.
 fn settle_in(declared: &Module, order: &[usize], good: &[bool], settled: &mut [bool])
     requires order { IsInOrder (directly_before (names_in declared.now.names.now)) order.now }
     requires within { (n : ℕ) → Contains order.now n → n < length (names_in declared.now.names.now) }
@@ -32,7 +32,7 @@ fn settle_in(declared: &Module, order: &[usize], good: &[bool], settled: &mut [b
     }
 }
 
-/// Whether the name at a place is settled, by which names are so far.
+/// Checks whether the name at an index is settled, by the names that are settled so far.
 fn is_settled(declared: &Module, good: &[bool], settled: &[bool], place: usize) -> bool
     requires place { place < length (names_in declared.now.names.now) }
     requires good { length good.now ≡ length (names_in declared.now.names.now) }
@@ -45,14 +45,14 @@ fn is_settled(declared: &Module, good: &[bool], settled: &[bool], place: usize) 
     }
 }
 
-/// Whether the names at these places are settled.
+/// Checks whether the names at these indexes are settled.
 pub(crate) fn all_settled(settled: &[bool], places: &[usize]) -> bool
     ensures { result ≡ all_that_are (seen_by (has settled.now) places.now) }
 {
     places.iter().all(|place| contains(settled, *place))
 }
 
-/// Whether a place is marked.
+/// Checks whether an index is marked.
 fn contains(marked: &[bool], place: usize) -> bool
     ensures { result ≡ has marked.now place }
 {

@@ -1,4 +1,4 @@
--- What an action changes of what is known, by what came of it.
+-- What an action changes of what is known, by its result.
 use Rattle.std.specs.Option.{option_map_or}
 use Rattle.std.specs.List.{filter_map}
 use Rattle.std.specs.Prelude.{◌<◌, ◌^◌, List, [], ◌∷◌, Option, Some, None, ⊤}
@@ -15,18 +15,18 @@ use Rattle.tf_state_next.specs.Ends.{SavedView, LeftView, gone, changed, unchang
 use Rattle.tf_state_next.specs.Saved.{saved_by_create, saved_by_update, left_by_destroy}
 use Rattle.tf_walk_buffers.specs.Head.{Head, Target, an_instance, an_object}
 
--- What a call saves: a create saves as creates do, also of what takes the place of an object; an update as updates do.
+-- What a call saves: a create saves as creates do, also one that replaces an object, and an update as updates do.
 abbrev pub saved_by : Op → SchemaView → Asked → Option Answer → Verdict → Option SavedView
 saved_by Create schema asked answer v = saved_by_create schema asked answer v
 saved_by Update schema asked answer v = saved_by_update schema answer v
 saved_by Destroy schema asked answer v = None
 
--- What came of a create or an update: only one that was called saves anything.
+-- The outcome of a create or an update: only one that was called saves anything.
 abbrev pub applied_of_done : List Meaning → Op → ActionResultView → ApplyResultView
 applied_of_done ms op (called asked answer v) = as_applied (option_map_or (λ schema. saved_by op schema asked answer v) (schema_in asked.type_name ms) None)
 applied_of_done ms op _ = nothing
 
--- What a destroy left: where nothing was called, what is known of the object stays.
+-- What a destroy left: if no provider was called, what is known of the object stays.
 abbrev pub left_of_done : List Meaning → ActionResultView → LeftView
 left_of_done ms (called asked answer v) = option_map_or (λ schema. left_by_destroy schema answer v) (schema_in asked.type_name ms) unchanged
 left_of_done ms _ = unchanged
@@ -36,7 +36,7 @@ pub data ChangeView : Type 0 where
   an_apply : ApplyView → ChangeView
   a_destroy : DestroyView → ChangeView
 
--- by what an action is about: what came of it as a create or an update, or as a destroy
+-- the change of an action with a target, by its outcome as a create or an update, or as a destroy
 abbrev pub change_by : ResourceAddrView → Target → ApplyResultView → LeftView → ChangeView
 change_by addr (an_instance given) applied left = an_apply (record { addr = addr; given = given; applied = applied })
 change_by addr (an_object id) applied left = a_destroy (record { addr = addr; id = id; left = left })
@@ -45,11 +45,11 @@ change_by addr (an_object id) applied left = a_destroy (record { addr = addr; id
 abbrev pub unchanged_at : Head → ChangeView
 unchanged_at h = change_by h.addr h.target nothing unchanged
 
--- what a call changes, by the schema of its type, what was asked, the answer and the verdict on it
+-- what a call changes, by the schema of its type, the request, the answer and the verdict on it
 abbrev pub changed_by_call : Head → SchemaView → Asked → Option Answer → Verdict → ChangeView
 changed_by_call h schema asked answer v = change_by h.addr h.target (as_applied (saved_by h.op schema asked answer v)) (left_by_destroy schema answer v)
 
--- what an action changes, by what came of it
+-- what an action changes, by its result
 abbrev pub change_at : List Meaning → Head → ActionResultView → ChangeView
 change_at ms h d = change_by h.addr h.target (applied_of_done ms h.op d) (left_of_done ms d)
 
@@ -66,11 +66,11 @@ abbrev pub destroy_in : ChangeView → Option DestroyView
 destroy_in (an_apply a) = None
 destroy_in (a_destroy d) = Some d
 
--- what came of creates and updates
+-- the outcomes of creates and updates
 abbrev pub applies_in : List ChangeView → List ApplyView
 applies_in changes = filter_map apply_in changes
 
--- what came of destroys
+-- the outcomes of destroys
 abbrev pub destroys_in : List ChangeView → List DestroyView
 destroys_in changes = filter_map destroy_in changes
 

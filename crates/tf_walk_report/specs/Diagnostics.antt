@@ -1,4 +1,4 @@
--- What an apply tells of actions that aren't good.
+-- What an apply reports of actions that aren't good.
 use Rattle.std.specs.Prelude.{ℕ, nat_lt, if◌then◌else◌, List, [], ◌∷◌, ◌++◌, map, codes, Option, Some, string_bytes, slice_index_or}
 use Rattle.tf_config_refusal.specs.declared.code.Code.{Code}
 use Rattle.tf_config_refusal.specs.declared.code.Code.TheVariants as code
@@ -15,7 +15,7 @@ use Rattle.tf_value_data.specs.Tree as tree
 use Rattle.tf_walk_buffers.specs.Place.{place_of}
 use Rattle.tf_walk_report.specs.declared.diagnostic.Diagnostic.{Diagnostic}
 
--- a diagnostic: its code, the address that it speaks of, what was to be done there, and its message
+-- a diagnostic: its code, the address that it is about, the operation that was to be done there, and its message
 pub record DiagnosticView : Type 0 where
   pub code : Code
   pub place : List ℕ
@@ -36,16 +36,16 @@ abbrev pub failure_message : Option Answer → List ℕ
 failure_message (Some (failed message there)) = in_one_line message
 failure_message _ = []
 
--- the name of the attribute at a place of an object
+-- the name of the attribute at an index of an object
 abbrev pub name_at : Option tree.Tree → ℕ → List ℕ
 name_at (Some (tree.map es)) place = slice_index_or (keys_of es) place []
 name_at _ place = []
 
--- the diagnostic of an object's address, and of what was to be done with it
+-- the diagnostic at an object's address, with the operation that was to be done
 abbrev pub told_at : List ℕ → Op → Code → List ℕ → List DiagnosticView
 told_at place op which message = record { code = which; place = place; verb = Some op; message = message } ∷ []
 
--- A failure is 21 with the provider's message, a contradiction 22 with the first attribute in byte order, a
+-- A failure is 21 with the provider's message, a contradiction 22 with the first such attribute in byte order, a
 -- malformed reply 23.
 abbrev pub diagnostics_of_verdict : List ℕ → Op → Asked → Option Answer → Verdict → List DiagnosticView
 diagnostics_of_verdict place op asked answer verdict.Failed = told_at place op code.Failed (failure_message answer)
@@ -53,12 +53,12 @@ diagnostics_of_verdict place op asked answer (verdict.Contradicted n) = told_at 
 diagnostics_of_verdict place op asked answer verdict.Malformed = told_at place op code.Malformed (codes "malformed reply")
 diagnostics_of_verdict place op asked answer _ = []
 
--- want of memory is 26, and an action that was left is 27
+-- running out of memory is 26, and an action that was left is 27
 abbrev pub diagnostics_of_excuse : List ℕ → Op → Moment → List DiagnosticView
 diagnostics_of_excuse place op by_stop = told_at place op code.Left (codes "left")
 diagnostics_of_excuse place op _ = told_at place op code.NoMemory (codes "no memory")
 
--- what is wrong with a request is 24; a skipped action has none
+-- a fault of a request is 24; a skipped action has no diagnostic
 abbrev pub diagnostics_at : List ℕ → Op → ActionResultView → List DiagnosticView
 diagnostics_at place op skipped = []
 diagnostics_at place op (excused moment) = diagnostics_of_excuse place op moment

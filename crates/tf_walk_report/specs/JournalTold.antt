@@ -1,4 +1,4 @@
--- Whether the journal of a report is the one that the report tells of.
+-- Whether the journal of a report agrees with the report.
 use Rattle.std.specs.Prelude.{◌≡◌, ℕ, List}
 use Rattle.std.specs.List.{AllByRecursion}
 use Rattle.tf_plan_data.specs.Action.{ActionView}
@@ -11,18 +11,18 @@ use Rattle.tf_walk_report.specs.declared.report.Walked.{Walked}
 use Rattle.tf_walk_report.specs.declared.report.Walked.TheVariants.{Whole, Torn}
 use Rattle.tf_walk_report.specs.Told.{verdict_told}
 
--- A journal holds exactly the calls that its report tells of, each once with its verdict, none before one that it depends
--- on.
+-- A journal holds exactly the calls that its report says were made, each once with its verdict, no call before one that
+-- it depends on.
 pub record AreCallsTold (order : Digraph) (report : Report) : Type 0 where
   pub in_order : IsInOrder (predecessors_of order) (actions_of report.journal.entries)
   pub verdicts : (n : ℕ) → verdict_in report.journal.entries n ≡ verdict_told report.outcomes.items report.excused.items n
 
--- And each says what its action has its provider do, by the actions of the plan.
+-- And each entry has the operation of its action in the plan.
 pub record IsJournalTold (order : Digraph) (actions : List ActionView) (report : Report) : Type 0 where
   pub calls : AreCallsTold order report
   pub ops : AllByRecursion (IsOfAction actions) report.journal.entries
 
--- a report is whole where its journal is the one that it tells of, and else it is torn
+-- a report is whole if its journal agrees with it, and otherwise it is torn
 abbrev pub IsSettled : Digraph → List ActionView → Report → Walked → Type 0
 IsSettled order actions report (Whole r) = (r ≡ report) × IsJournalTold order actions report
 IsSettled order actions report (Torn r) = (r ≡ report) × (IsJournalTold order actions report → ⊥)

@@ -1,4 +1,4 @@
--- What an apply tells of outputs.
+-- What an apply reports of outputs.
 use Rattle.std.specs.Prelude.{ℕ, ◌+◌, List, [], ◌∷◌, ◌++◌, codes, None}
 use Rattle.tf_config_refusal.specs.declared.code.Code.TheVariants as code
 use Rattle.tf_walk_action.specs.Message.{evaluation_text}
@@ -13,7 +13,7 @@ use Rattle.tf_walk_report.specs.Diagnostics.{DiagnosticView}
 abbrev pub output_place : List ℕ → List ℕ
 output_place name = codes "output." ++ name
 
--- A fault is 24, want of memory 26; an output that wasn't evaluated anew, or has a value, has none.
+-- A fault is 24, and running out of memory 26. An output that wasn't evaluated, or has a value, has no diagnostic.
 abbrev pub diagnostics_of_output : List ℕ → OutputResult → List DiagnosticView
 diagnostics_of_output place (Faulted why) = record { code = code.ArgumentFault; place = place; verb = None; message = evaluation_text why } ∷ []
 diagnostics_of_output place NoMemory = record { code = code.NoMemory; place = place; verb = None; message = codes "no memory" } ∷ []
@@ -25,12 +25,12 @@ abbrev pub output_diagnostics : Entries → List OutputResult → List Diagnosti
 output_diagnostics (entry name e es) (end ∷ ends) = diagnostics_of_output (output_place name) end ++ output_diagnostics es ends
 output_diagnostics _ _ = []
 
--- the excuse of the output at a place, where memory was refused for it
+-- the excuse of the output at an index, if memory ran out for it
 abbrev pub output_excuses_at : ℕ → OutputResult → List Excuse
 output_excuses_at n NoMemory = Output n ∷ []
 output_excuses_at n _ = []
 
--- the excuses of outputs, each once and by name, where the first one is at a place
+-- the excuses of outputs, each once and by name, if the first one has the given index
 abbrev pub output_excuses : ℕ → List OutputResult → List Excuse
 output_excuses n [] = []
 output_excuses n (end ∷ ends) = output_excuses_at n end ++ output_excuses (n + 1) ends

@@ -1,4 +1,4 @@
--- What an answer says beside an object.
+-- What an answer says apart from an object.
 use Rattle.std.specs.Prelude.{ℕ, List, Option, Some, None}
 use Rattle.tf_provider_protocol.specs.Meaning.{Answer, failed}
 

@@ -27,28 +27,29 @@ use Rattle.tf_walk_report.specs.declared.report.Report.{Report}
 use Rattle.tf_walk_report.specs.declared.report.Walked.{Walked}
 use Rattle.tf_walk_report.specs.declared.report.Walked.TheVariants.{Whole, Torn}
 
--- what instances stand for in outputs: the objects that the providers answered to all actions, and else their prior objects
+-- the objects of instances in outputs: those that the providers returned to all actions, or else the prior ones
 abbrev pub objects_after : PlanView → List ActionResultView → ℕ → InstanceKeyView → Tree
 objects_after plan done = objects_by plan (seen_by (done_at done) (range_with_len 0 (length plan.actions)))
 
--- What comes of the outputs: one is evaluated anew where each name that it names is settled, which a resource is where
--- all its creates and updates are good, or none is planned.
+-- The outcomes of the outputs. An output is evaluated if each name in it is settled. A resource is settled if all its
+-- creates and updates are good, or no such action is planned.
 abbrev pub AreOutputsOf : PlanView → List ActionResultView → List OutputResultView → Type 0
 AreOutputsOf plan done outputs =
     (settled : ℕ → Bool) × AreSettled (plan_names plan) (are_good_at plan.actions done) settled
     × AreOutputsDone plan.variables (plan_names plan) plan.shapes (objects_after plan done) settled plan.config.outputs outputs
 
--- The state after the actions of a plan, with these outputs: what is known of each instance is what comes of its actions and
--- is given anew. What is known of each action before its call is that of the plan, so an object that may become deposed has
--- the key that is given for it.
+-- The state after the actions of a plan, with these outputs. What is known of each instance follows from its actions
+-- and metadata updates. What is known of each action before its call is that of the plan, so an object that may become
+-- deposed has the key that is given for it.
 pub record IsStateOf (ms : List Meaning) (plan : PlanView) (done : List ActionResultView) (outputs : Entries) (s : StateView) : Type 0 where
   pub heads : List Head
   pub are_heads : AreHeads plan plan.actions heads
   pub after : IsStateAfter plan.prior (given_in (events ms plan heads done)) (ends_in (events ms plan heads done)) outputs s
 
--- A report tells what came of each action and of each output: its excuses are those of the excused ones; outcomes,
--- state, diagnostics and the numbers of good actions are those that the rules give. Where the addresses of the
--- configuration's blocks are of names and the prior state is valid, the state is valid, so that its text reads back as it.
+-- A report says what the results of all actions and the outcomes of all outputs are. Its excuses are those of the
+-- excused ones. Its outcomes, state, diagnostics and numbers of good actions are those that the rules give. If the
+-- addresses of the configuration's blocks consist of names and the prior state is valid, the state is valid, so that
+-- its text reads back as it.
 pub record IsTold (ms : List Meaning) (plan : PlanView) (done : List ActionResultView) (outputs : List OutputResultView) (report : Report) : Type 0 where
   pub lawful : report.excused.items ≡ excuses_from 0 done ++ output_excuses 0 (map end_of outputs)
   pub outcomes : report.outcomes.items ≡ map outcome_of done
@@ -58,8 +59,9 @@ pub record IsTold (ms : List Meaning) (plan : PlanView) (done : List ActionResul
   pub diagnostics_told : map diagnostic_of report.diagnostics.items ≡ action_diagnostics plan.actions done ++ output_diagnostics plan.config.outputs (map end_of outputs)
   pub good : report.good ≡ good_totals plan.actions done
 
--- A report on a plan: each action has what the rule makes of those directly before it, with the report's own excuses; of
--- an action that was excused during its call the request had no fault; and the report tells what came of all.
+-- A report on a plan. Each action has the result that the rule gives by those directly before it, with the report's own
+-- excuses. If an action was excused during its call, its request had no fault. The report says what all results and
+-- outcomes are.
 pub record IsReport (ms : List Meaning) (requests : Requests) (plan : PlanView) (done : List ActionResultView) (outputs : List OutputResultView) (report : Report) : Type 0 where
   pub solved : AreOutcomes ms requests plan report.excused.items done
   pub asked : (n : ℕ) → done_at done n ≡ excused during_call → is_faulted (call_at ms requests plan n (seen_by (done_at done) (predecessors_of plan.order n))) ≡ false
@@ -70,8 +72,8 @@ abbrev pub report_of : Walked → Report
 report_of (Whole report) = report
 report_of (Torn report) = report
 
--- A report tells what came of a plan: something is asked, or wrong, for each of its actions, and what came of each action and
--- of each output is what the report tells.
+-- A report agrees with a plan: there is a request or a fault for each of its actions, and the results of the actions
+-- and the outcomes of the outputs are what the report says.
 pub record IsReported (ms : List Meaning) (plan : PlanView) (report : Report) : Type 0 where
   pub requests : Requests
   pub are_requests : AreRequests plan requests
@@ -79,12 +81,12 @@ pub record IsReported (ms : List Meaning) (plan : PlanView) (report : Report) : 
   pub outputs : List OutputResultView
   pub is_report : IsReport ms requests plan done outputs report
 
--- A whole report tells what came of a plan, and its journal has exactly the called actions.
+-- A whole report agrees with a plan, and its journal has exactly the called actions.
 pub record IsWhole (ms : List Meaning) (plan : PlanView) (report : Report) : Type 0 where
   pub reported : IsReported ms plan report
   pub journal : IsJournal plan reported.done report.journal.entries
 
--- What a walk answers: a whole report, with its journal. A walk of one thread doesn't tear its journal.
+-- What a walk returns: a whole report, with its journal. A walk of one thread doesn't tear its journal.
 abbrev pub IsWalked : List Meaning → PlanView → Walked → Type 0
 IsWalked ms plan (Whole report) = IsWhole ms plan report
 IsWalked ms plan (Torn report) = ⊥

@@ -1,4 +1,4 @@
--- What the report on a plan is made of: nothing stands in it, and there is room for what is added.
+-- The buffers for the report on a plan: they are empty, and have space for what is added.
 use Rattle.std.specs.Prelude.{◌≡◌, ◌≤◌, ◌+◌, ℕ, List, [], filter, map, vec_len, vec_capacity}
 use Rattle.std.specs.List.{range_with_len}
 use Rattle.tf_plan_data.specs.Action.{ActionView}
@@ -21,7 +21,7 @@ use Rattle.tf_walk_report.specs.Settling.{IsReady}
 use Rattle.tf_walk_report.specs.declared.reserving.ReportLists.{ReportLists}
 use Rattle.tf_walk_report.specs.declared.reserving.ReportBuffers.{ReportBuffers}
 
--- nothing is told, and there is room for what is told of so many actions and outputs
+-- nothing is reported, and there is space for what is reported of the given numbers of actions and outputs
 pub record AreEmptyLists (actions outputs : ℕ) (b : ReportLists) : Type 0 where
   pub outcomes : b.outcomes.items ≡ []
   pub outcomes_room : actions ≤ vec_capacity b.outcomes
@@ -30,7 +30,7 @@ pub record AreEmptyLists (actions outputs : ℕ) (b : ReportLists) : Type 0 wher
   pub excused : b.excused.items ≡ []
   pub excused_room : actions + outputs ≤ vec_capacity b.excused
 
--- nothing is changed, and there is room for what so many actions change
+-- nothing is changed, and there is space for what the given number of actions change
 pub record AreEmptyEvents (actions : ℕ) (e : Events) : Type 0 where
   pub applies : e.applies.items ≡ []
   pub applies_room : actions ≤ vec_capacity e.applies

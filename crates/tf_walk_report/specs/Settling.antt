@@ -1,4 +1,4 @@
--- What comes of outputs by what came of actions, and the room for it.
+-- The outcomes of outputs by the results of actions, and the buffers for them.
 use Rattle.std.specs.Prelude.{◌≡◌, ◌≤◌, ℕ, Bool, List, [], length, vec_capacity}
 use Rattle.tf_config_data.specs.Names.{NameView}
 use Rattle.tf_expand_keys.specs.InstanceKeys.{InstanceKeysView}
@@ -15,7 +15,7 @@ use Rattle.tf_walk_report.specs.Good.{are_good_at}
 use Rattle.tf_walk_report.specs.declared.settling.OutputValues.{OutputValues}
 use Rattle.tf_walk_report.specs.declared.settling.Settling.{Settling}
 
--- there is room for each name and each output
+-- there is space for each name and each output
 pub record IsReady (names : List NameView) (s : Settling) : Type 0 where
   pub good : length s.good.items ≡ length names
   pub settled : length s.settled.items ≡ length names
@@ -23,7 +23,8 @@ pub record IsReady (names : List NameView) (s : Settling) : Type 0 where
   pub none : s.ends.items ≡ []
   pub room : length s.rooms.items ≤ vec_capacity s.ends
 
--- The outputs have ended as the settled names and the answered objects have it; their values may be stored where the prior ones may.
+-- The outputs have ended as the settled names and the returned objects require. Their values may be stored if the prior
+-- ones may be.
 pub record AreEnded (variables : Entries) (names : List NameView) (shapes : ℕ → InstanceKeysView) (prior : StateView) (actions : List ActionView) (done : List ActionResultView) (s : Settling) (o : OutputValues) : Type 0 where
   pub settled : ℕ → Bool
   pub are_settled : AreSettled names (are_good_at actions done) settled

@@ -17,7 +17,7 @@ use tf_state_next::Events;
 use tf_walk_action::ActionResult;
 use tf_walk_buffers::ActionBuffers;
 
-/// Adds what the actions change and what is told of them, in action order.
+/// Adds what the actions change, and their diagnostics, in action order.
 pub(crate) fn report_actions<'p>(
     providers: &[Box<dyn Provider + Sync>],
     rooms: Vec<ActionBuffers<'p>>,
@@ -49,7 +49,7 @@ pub(crate) fn report_actions<'p>(
     ends.destroy_empty();
 }
 
-/// Adds an item, where there is one, to a list that has room for it.
+/// Adds an item, if there is one, to a list that has space for it.
 pub(crate) fn add<T: Drop>(items: &mut Vec<T>, item: Option<T>)
     requires { length items.old.items < vec_capacity items.old }
     ensures items { items.new.items ≡ items.old.items ++ listed item }

@@ -1,4 +1,4 @@
-//! Which calls a report tells of.
+//! Which calls a report says were made.
 
 ghost use Rattle.std.specs.Prelude.{◌≡◌, ◌↔◌, IsTrue, All, Some, false, is_some, length};
 ghost use Rattle.tf_claim.specs.Claims.{how_many};
@@ -8,7 +8,7 @@ ghost use Rattle.tf_walk_report.specs.Told.{is_during, verdict_told};
 use tf_provider::{Entry, Verdict};
 use tf_walk_action::{Excuse, Outcome};
 
-/// Whether each entry has the verdict that is told of its action.
+/// Checks whether each entry has the verdict that is reported of its action.
 pub fn are_told(entries: &[Entry], outcomes: &[Outcome], excused: &[Excuse]) -> bool
     ensures told { IsTrue result
         → All (λ entry. verdict_told outcomes.now excused.now entry.action ≡ Some entry.verdict) entries.now }
@@ -24,7 +24,7 @@ pub fn are_told(entries: &[Entry], outcomes: &[Outcome], excused: &[Excuse]) -> 
     true
 }
 
-/// Whether an entry has the verdict that is told of its action.
+/// Checks whether an entry has the verdict that is reported of its action.
 fn is_told(entry: &Entry, outcomes: &[Outcome], excused: &[Excuse]) -> bool
     ensures { IsTrue result
         ↔ (verdict_told outcomes.now excused.now entry.now.action ≡ Some entry.now.verdict) }
@@ -32,7 +32,7 @@ fn is_told(entry: &Entry, outcomes: &[Outcome], excused: &[Excuse]) -> bool
     verdict_told(outcomes, excused, entry.action) == Some(entry.verdict)
 }
 
-/// How many calls are told of.
+/// Counts the calls that are reported.
 pub fn count_told(outcomes: &[Outcome], excused: &[Excuse]) -> usize
     ensures { result
         ≡ how_many (λ n. is_some (verdict_told outcomes.now excused.now n)) (length outcomes.now) }
@@ -46,7 +46,7 @@ pub fn count_told(outcomes: &[Outcome], excused: &[Excuse]) -> usize
     count
 }
 
-/// The verdict on the call of an action, if it is told that it was called.
+/// Returns the verdict on the call of an action, if the action is reported as called.
 fn verdict_told(outcomes: &[Outcome], excused: &[Excuse], action: usize) -> Option<Verdict>
     ensures { result ≡ verdict_told outcomes.now excused.now action }
 {
@@ -63,7 +63,7 @@ fn verdict_told(outcomes: &[Outcome], excused: &[Excuse], action: usize) -> Opti
     }
 }
 
-/// Whether an action was excused during its call.
+/// Checks whether an action was excused during its call.
 fn was_called(excused: &[Excuse], action: usize) -> bool
     ensures { result ≡ is_during (excuse_of excused.now action) }
 {

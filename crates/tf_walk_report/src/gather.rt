@@ -1,4 +1,4 @@
-//! How actions ended, without taking memory.
+//! The outcomes of actions, collected without taking memory.
 
 ghost use Rattle.std.specs.Prelude.{◌≡◌, ◌-◌, ◌<◌, ◌≤◌, ◌^◌, [], length, map, vec_capacity};
 ghost use Rattle.tf_walk_action.specs.Words.{action_of, result_or_skipped, action_results_of, is_good, op_of, step_of};
@@ -9,7 +9,7 @@ use tf_plan_data::{Action, Step};
 use tf_provider::Verdict;
 use tf_walk_action::{ActionResult, Excuse, Outcome};
 
-/// How each action ended, in action order.
+/// Adds the outcome of each action, in action order.
 pub fn tell_outcomes(outcomes: &mut Vec<Outcome>, results: &[Option<ActionResult>])
     requires none { outcomes.old.items ≡ [] }
     requires room { length results.now ≤ vec_capacity outcomes.old }
@@ -32,7 +32,7 @@ fn outcome(ended: &Option<ActionResult>) -> Outcome
     }
 }
 
-/// The actions that are excused, in action order.
+/// Adds the excuses of the excused actions, in action order.
 pub fn tell_excuses(excused: &mut Vec<Excuse>, results: &[Option<ActionResult>])
     requires none { excused.old.items ≡ [] }
     requires room { length results.now ≤ vec_capacity excused.old }
@@ -58,7 +58,7 @@ fn excuse(place: usize, ended: &Option<ActionResult>) -> Option<Excuse>
     }
 }
 
-/// How many creates, updates and destroys are good.
+/// Counts the good creates, updates and destroys.
 pub fn count_good(actions: &[Action], results: &[Option<ActionResult>]) -> (u32, u32, u32)
     requires few { length actions.now < 2 ^ 32 }
     requires sized { length results.now ≡ length actions.now }
@@ -71,7 +71,7 @@ pub fn count_good(actions: &[Action], results: &[Option<ActionResult>]) -> (u32,
     totals
 }
 
-/// The numbers with one action more, where that is good.
+/// Returns the numbers with one more action, if that is good.
 fn counted(totals: (u32, u32, u32), step: &Step, is_good: bool) -> (u32, u32, u32)
     requires { (totals.0 < 2 ^ 32 - 1) × (totals.1 < 2 ^ 32 - 1) × (totals.2 < 2 ^ 32 - 1) }
     ensures { result ≡ counted_one totals (op_of (step_of step.now)) is_good }
@@ -87,7 +87,7 @@ fn counted(totals: (u32, u32, u32), step: &Step, is_good: bool) -> (u32, u32, u3
     }
 }
 
-/// Whether an action is good; one that hasn't ended isn't.
+/// Checks whether an action is good. One that hasn't ended isn't.
 pub fn is_good(ended: &Option<ActionResult>) -> bool
     ensures { result ≡ is_good (result_or_skipped ended.now) }
 {

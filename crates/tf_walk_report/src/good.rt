@@ -1,4 +1,4 @@
-//! Of which resources all creates and updates are good.
+//! Which resources have only good creates and updates.
 
 ghost use Rattle.std.specs.Prelude.{◌≡◌, ◌<◌, ◌&&◌, ◌||◌, ℕ, length, map, not, true};
 ghost use Rattle.tf_walk_action.specs.Words.{action_of, result_or_skipped, action_results_of, has, is_good};
@@ -8,7 +8,7 @@ use crate::gather::is_good;
 use tf_plan_data::Action;
 use tf_walk_action::ActionResult;
 
-/// Notes of each resource, by the place of its name, whether all its creates and updates are good.
+/// Writes for each resource, by its name's index, whether all its creates and updates are good.
 pub fn note_good(good: &mut [bool], actions: &[Action], results: &[Option<ActionResult>])
     requires { length results.now ≡ length actions.now }
     ensures length { length good.new ≡ length good.old }
@@ -20,7 +20,7 @@ pub fn note_good(good: &mut [bool], actions: &[Action], results: &[Option<Action
     }
 }
 
-/// Marks all places.
+/// Marks all indexes.
 fn mark_all(good: &mut [bool])
     ensures length { length good.new ≡ length good.old }
     ensures marked { (n : ℕ) → n < length good.old → has good.new n ≡ true }
@@ -30,7 +30,7 @@ fn mark_all(good: &mut [bool])
     }
 }
 
-/// Notes of the resource of an action that isn't good that not all are; a destroy doesn't count.
+/// Unmarks the action's resource if the action is a create or an update that isn't good. Destroys don't count.
 fn note_end(good: &mut [bool], action: &Action, ended: &Option<ActionResult>)
     ensures length { length good.new ≡ length good.old }
     ensures good { (n : ℕ) → n < length good.old → has good.new n

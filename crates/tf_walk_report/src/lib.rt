@@ -1,8 +1,9 @@
-//! The report on a plan that was carried out: what each action adds to it, what is told of the configuration's outputs
-//! (`tf_walk_outputs`), all of it put together, and whether its journal is the one that it tells of.
+//! The report on a plan that was carried out: what each action adds to it, what is reported of the configuration's
+//! outputs (`tf_walk_outputs`), the report as a whole, and whether its journal agrees with it.
 //!
-//! By then providers were called, so nothing here may be forgotten. All memory that the report needs is had before the first
-//! call (`reserve_report`), and none is taken after it for what a reply says (`report_of`), nor to compare the journal (`settle`).
+//! Providers were called by then, so nothing here may be forgotten. All memory that the report needs is reserved before
+//! the first call (`reserve_report`). After it no memory is taken for what a reply says (`report_of`), nor to compare
+//! the journal (`settle`).
 #![tactic(auto)]
 
 mod additions;

@@ -2,7 +2,7 @@
 ghost use Rattle.std.specs.Prelude.{◌≡◌, string_bytes};
 ghost use Rattle.tf_walk_report.specs.Diagnostics.{blanked, in_one_line};
 
-/// A message with a space for each character below U+0020. It takes no memory.
+/// Replaces each character below U+0020 in a message by a space. Takes no memory.
 pub fn one_line(message: String) -> String
     ensures { string_bytes result ≡ in_one_line (string_bytes message) }
 {

@@ -1,4 +1,4 @@
-//! What the actions of a plan have their providers do.
+//! The operations of a plan's actions.
 
 ghost use Rattle.std.specs.List.{AllByRecursion};
 ghost use Rattle.std.specs.Prelude.{◌≡◌, ◌↔◌, IsTrue, false, map};
@@ -8,7 +8,7 @@ use tf_plan_data::Action;
 use tf_provider::Entry;
 use tf_provider_protocol::Op;
 
-/// Whether each entry says what its action has its provider do.
+/// Checks whether each entry has the operation of its action.
 pub fn are_of_actions(entries: &[Entry], actions: &[Action]) -> bool
     ensures told { IsTrue result → AllByRecursion (IsOfAction (map action_of actions.now)) entries.now }
     ensures missed { result ≡ false → AllByRecursion (IsOfAction (map action_of actions.now)) entries.now → ⊥ }
@@ -22,14 +22,14 @@ pub fn are_of_actions(entries: &[Entry], actions: &[Action]) -> bool
     true
 }
 
-/// Whether an entry says what its action has its provider do.
+/// Checks whether an entry has the operation of its action.
 fn is_of_action(entry: &Entry, actions: &[Action]) -> bool
     ensures { IsTrue result ↔ IsOfAction (map action_of actions.now) entry.now }
 {
     op_at(actions, entry.action) == Some(entry.op)
 }
 
-/// What the action at a place has its provider do, if there is one.
+/// Returns the operation of the action at an index, if there is one.
 fn op_at(actions: &[Action], place: usize) -> Option<Op>
     ensures { result ≡ op_at (map action_of actions.now) place }
 {

@@ -1,4 +1,4 @@
-//! What is told of outputs, without taking memory.
+//! What is reported of outputs, without taking memory.
 
 ghost use Rattle.std.specs.Prelude.{◌≡◌, ◌+◌, ◌++◌, ◌≤◌, None, IfOk, length, map, option_map, string_bytes, vec_capacity};
 ghost use Rattle.tf_walk_action.specs.Message.{evaluation_text};
@@ -19,11 +19,11 @@ use tf_expr_syntax::Expr;
 use tf_walk_action::Excuse;
 use tf_walk_outputs::OutputResult;
 
-/// The texts for each output, in byte order of their names.
+/// Returns the texts for each output, in byte order of their names.
 ///
 /// # Errors
 ///
-/// Only where memory runs out.
+/// Fails with `AllocError` if memory runs out.
 pub fn texts_for(
     alloc: Global,
     outputs: &BTreeMap<String, Expr>,
@@ -46,7 +46,7 @@ fn texts_of(alloc: Global, name: &String) -> Result<OutputTexts, AllocError>
     })
 }
 
-/// Tells of each output that has a fault or for which memory was refused.
+/// Adds a diagnostic for each output that has a fault or for which memory ran out.
 pub fn tell_outputs(
     texts: Vec<OutputTexts>,
     ends: Vec<OutputResult>,
@@ -65,7 +65,7 @@ pub fn tell_outputs(
     }
 }
 
-/// What is told of an output.
+/// Returns the diagnostic of an output, if it has one.
 fn tell_output(texts: OutputTexts, end: OutputResult) -> Option<Diagnostic>
     ensures { listed (option_map diagnostic_of result) ≡ diagnostics_of_output (string_bytes texts.place) end }
 {
@@ -94,7 +94,7 @@ fn diagnostic(code: Code, place: String, message: String) -> Diagnostic
     }
 }
 
-/// The message about a fault.
+/// Returns the message about a fault.
 fn evaluation_message(fault: EvalFault) -> &'static str
     ensures text { result.now ≡ evaluation_text fault }
     ensures short { length result.now ≤ 21 }
@@ -109,7 +109,7 @@ fn evaluation_message(fault: EvalFault) -> &'static str
     }
 }
 
-/// The outputs for which memory was refused, by name.
+/// Adds the excuses of the outputs for which memory ran out, by name.
 pub fn tell_output_excuses(excused: &mut Vec<Excuse>, ends: &[OutputResult])
     requires room { length excused.old.items + length ends.now ≤ vec_capacity excused.old }
     ensures { excused.new.items ≡ excused.old.items ++ output_excuses 0 ends.now }

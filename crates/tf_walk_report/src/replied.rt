@@ -16,7 +16,7 @@ use tf_provider_protocol::is_allowed;
 use tf_state_data::Object;
 use tf_value_data::{Value, each_may_be_stored};
 
-/// What a reply says: the object in it, where that is well formed, and the message of a failure.
+/// Splits a reply into the object in it, if that is well formed, and the message of a failure.
 pub fn open_reply(reply: Reply, schema: &Schema) -> (Option<Object>, Option<String>)
     ensures formed { option_map (λ o. tree_of o.value) result.0 ≡ formed_in schema.now (answered reply) }
     ensures stored { IfSome result.0 (λ o. IsAttributes (tree_of o.value)) }
@@ -29,7 +29,7 @@ pub fn open_reply(reply: Reply, schema: &Schema) -> (Option<Object>, Option<Stri
     }
 }
 
-/// The object that is there in spite of a failure, where there is one and it is well formed.
+/// Returns the object that exists in spite of a failure, if there is one and it is well formed.
 fn object_there(object: Option<Value>, schema: &Schema) -> Option<Object>
     ensures object { option_map (λ o. tree_of o.value) result ≡ option_and_then (if_formed schema.now) (option_map tree_of object) }
     ensures stored { IfSome result (λ o. IsAttributes (tree_of o.value)) }
@@ -40,7 +40,7 @@ fn object_there(object: Option<Value>, schema: &Schema) -> Option<Object>
     }
 }
 
-/// An object that a provider answered, where it is well formed.
+/// Returns an object that a provider returned, if it is well formed.
 fn formed_object(value: Value, schema: &Schema) -> Option<Object>
     ensures object { option_map (λ o. tree_of o.value) result ≡ if_formed schema.now (tree_of value) }
     ensures stored { IfSome result (λ o. IsAttributes (tree_of o.value)) }
@@ -52,8 +52,9 @@ fn formed_object(value: Value, schema: &Schema) -> Option<Object>
     }
 }
 
-/// Whether an object is well formed: each attribute may be stored, it has exactly those of the schema, and the value of each
-/// is allowed. As it looks through the object, it also says that numbers and keys are such as a text can hold.
+/// Checks whether an object is well formed: each attribute may be stored, it has exactly those of the schema, and the
+/// value of each is allowed. Because it looks through the object, it also shows that a text can hold its numbers and
+/// keys.
 fn is_well_formed(value: &Value, schema: &Schema) -> bool
     ensures exact { result ≡ well_formed schema.now (tree_of value.now) }
     ensures stored { OnTrue result (IsAttributes (tree_of value.now)) }
@@ -63,7 +64,7 @@ fn is_well_formed(value: &Value, schema: &Schema) -> bool
     stored && has_attributes(value, schema) && all_allowed(value, attributes)
 }
 
-/// Whether the value of each attribute is there and allowed.
+/// Checks whether the value of each attribute is there and allowed.
 fn all_allowed(value: &Value, attributes: &[Attribute]) -> bool
     ensures { result ≡ list_all (allowed_in (tree_of value.now)) (map attribute_of attributes.now) }
 {
@@ -75,7 +76,7 @@ fn all_allowed(value: &Value, attributes: &[Attribute]) -> bool
     true
 }
 
-/// Whether a map has a value for the attribute that is allowed.
+/// Checks whether a map has an allowed value for the attribute.
 fn is_allowed_in(value: &Value, attribute: &Attribute) -> bool
     ensures { result ≡ allowed_in (tree_of value.now) (attribute_of attribute.now) }
 {
@@ -85,7 +86,7 @@ fn is_allowed_in(value: &Value, attribute: &Attribute) -> bool
     }
 }
 
-/// Whether each attribute of an object may be stored.
+/// Checks whether each attribute of an object may be stored.
 pub fn has_stored_attributes(object: &Value) -> bool
     ensures exact { result ≡ has_stored_attributes (tree_of object.now) }
     ensures stored { OnTrue result (IsAttributes (tree_of object.now)) }

@@ -1,4 +1,5 @@
-//! What came of an action is put among the events that the state after is made of, and told, without taking memory.
+//! Adds the outcome of an action to the events from which the state after is built, and reports it, without taking
+//! memory.
 
 ghost use Rattle.std.specs.Prelude.{◌≡◌, ◌≤◌, true, None, Option, Some, length, map, option_map, string_bytes, IfSome, IsSome};
 ghost use Rattle.tf_walk_action.specs.Words.{Answer, answered, Asked, asked, result_or_skipped, fault_message, has_stored_attributes, instance_fault_of, addr_of, SchemaView, tree_of, verdict_on, with_nulls};
@@ -29,7 +30,7 @@ use tf_value_data::{Value, with_nulls};
 use tf_walk_action::{ActionResult, Faulted, Served};
 use tf_walk_buffers::{ActionBuffers, Target};
 
-/// Adds what an action changes to the events, and returns what is told of it.
+/// Adds what an action changes to the events, and returns its diagnostic, if it has one.
 pub(crate) fn report_action<'p>(
     providers: &[Box<dyn Provider + Sync>],
     room: ActionBuffers<'p>,
@@ -56,7 +57,7 @@ pub(crate) fn report_action<'p>(
     }
 }
 
-/// A skipped action changes nothing, and nothing is told of it.
+/// Adds that a skipped action changed nothing. It has no diagnostic.
 fn skip<'p>(room: ActionBuffers<'p>, events: &mut Events<'p>) -> Option<Diagnostic>
     requires { HasRoom events.old }
     ensures added { IsAdded (unchanged_at (buffers_head room.entry)) events.old events.new }
@@ -67,7 +68,7 @@ fn skip<'p>(room: ActionBuffers<'p>, events: &mut Events<'p>) -> Option<Diagnost
     None
 }
 
-/// What is told of an action that wasn't called, and why.
+/// Adds that an excused action changed nothing, and returns its diagnostic, with the reason.
 fn not_called<'p>(
     room: ActionBuffers<'p>,
     code: Code,
@@ -92,7 +93,7 @@ fn not_called<'p>(
     told(place, op, Some((code, message)))
 }
 
-/// What is told of a request that can't be made.
+/// Adds that an action whose request has a fault changed nothing, and returns its diagnostic.
 fn fault<'p>(
     room: ActionBuffers<'p>,
     faulted: Faulted,
@@ -108,7 +109,7 @@ fn fault<'p>(
     told(room.place, room.op, Some((Code::ArgumentFault, message)))
 }
 
-/// Adds what an action changes that wasn't called: it saved nothing, and what is known of an object stays.
+/// Adds an action that changed nothing: it saved nothing, and what is known of an object stays.
 fn add_unchanged<'p>(addr: &'p ResourceAddr, target: Target, events: &mut Events<'p>)
     requires { HasRoom events.old }
     ensures { IsAdded (change_by (addr_of addr.now) (target_of target) nothing unchanged) events.old events.new }
@@ -133,7 +134,7 @@ fn add_unchanged<'p>(addr: &'p ResourceAddr, target: Target, events: &mut Events
     }
 }
 
-/// Adds what came of a create or an update.
+/// Adds the outcome of a create or an update.
 fn add_apply<'p>(apply: Apply<'p>, events: &mut Events<'p>)
     requires { HasRoom events.old }
     ensures { IsAdded (an_apply (apply_of apply.entry)) events.old events.new }
@@ -141,7 +142,7 @@ fn add_apply<'p>(apply: Apply<'p>, events: &mut Events<'p>)
     events.applies.push(apply).unwrap();
 }
 
-/// Adds what came of a destroy.
+/// Adds the outcome of a destroy.
 fn add_destroy<'p>(destroy: Destroy<'p>, events: &mut Events<'p>)
     requires { HasRoom events.old }
     ensures { IsAdded (a_destroy (destroy_of destroy.entry)) events.old events.new }
@@ -149,7 +150,7 @@ fn add_destroy<'p>(destroy: Destroy<'p>, events: &mut Events<'p>)
     events.destroys.push(destroy).unwrap();
 }
 
-/// The diagnostic of what is told of an action, by its code and its message.
+/// Builds the diagnostic of an action from its code and its message, if there are any.
 fn told(place: String, op: Op, telling: Option<(Code, String)>) -> Option<Diagnostic>
     ensures { option_map diagnostic_of result
         ≡ option_map (λ t. record { code = t.0; place = string_bytes place; verb = Some op; message = string_bytes t.1 }) telling }
@@ -165,7 +166,7 @@ fn told(place: String, op: Op, telling: Option<(Code, String)>) -> Option<Diagno
     }
 }
 
-/// Adds what a call changes, and returns what is told of it.
+/// Adds what a call changes, and returns its diagnostic, if it has one.
 fn report_call<'p>(
     room: ActionBuffers<'p>,
     served: Served,
@@ -198,8 +199,8 @@ fn report_call<'p>(
     told(place, op, telling)
 }
 
-/// Adds what a call changes, by the verdict on its reply, the object in the reply where that is well formed, and the object that
-/// a create asked for, with null for what isn't known.
+/// Adds what a call changes, by the verdict on its reply, the object in the reply if it is well formed, and the object
+/// that a create requested, with null for each unknown part.
 fn add_change<'p>(
     addr: &'p ResourceAddr,
     target: Target,
@@ -229,7 +230,7 @@ fn add_change<'p>(
     }
 }
 
-/// What a call saves.
+/// Returns what a call saves.
 fn saved(
     op: Op,
     verdict: Verdict,
@@ -252,7 +253,7 @@ fn saved(
     }
 }
 
-/// What a create saves after a malformed reply: the object that it asked for, with null for what isn't known.
+/// Returns what a create saves after a malformed reply: the object that it requested, with null for each unknown part.
 fn fallback_for(op: Op, object: Option<Value>) -> Option<Object>
     ensures { op ≡ Create → option_map (λ o. tree_of o.value) result ≡ option_map with_nulls (option_map tree_of object) }
 {
@@ -264,8 +265,8 @@ fn fallback_for(op: Op, object: Option<Value>) -> Option<Object>
     }
 }
 
-/// Whether what is saved after a malformed reply may be stored. It is looked through, which tells that its numbers and
-/// keys are such as a text can hold. By another verdict it isn't saved, so it isn't looked through.
+/// Checks whether what is saved after a malformed reply may be stored. The check looks through the object, which shows
+/// that a text can hold its numbers and keys. With another verdict the object isn't saved, so it isn't looked through.
 fn can_be_saved(verdict: Verdict, fallback: &Option<Object>) -> bool
     ensures { verdict ≡ Malformed → IfSome fallback.now (λ o. has_stored_attributes (tree_of o.value) ≡ true → IsAttributes (tree_of o.value)) }
 {

@@ -1,4 +1,4 @@
-//! All that the report needs memory for is had before the first call.
+//! Reserves all memory that the report needs, before the first call.
 
 ghost use Rattle.std.specs.Prelude.{◌≡◌, ◌+◌, ◌≤◌, ◌++◌, ◌∷◌, [], IfOk, OnOk, if◌then◌else◌, length, map, vec_capacity, vec_len};
 ghost use Rattle.std.specs.List.{range_with_len};
@@ -24,8 +24,8 @@ use tf_walk_action::{Excuse, Outcome};
 use tf_walk_buffers::{ActionBuffers, metadata_updates_for, reserve_actions};
 use tf_walk_outputs::{kept_outputs, reserve_outputs};
 
-/// All that the report on a plan needs memory for. What actions change may not be let go, so neither may the events that are
-/// for it.
+/// All memory that the report on a plan needs. What actions change may not be dropped, so neither may the events that
+/// hold it.
 pub struct ReportBuffers<'p> {
     pub(crate) lists: ReportLists,
     pub(crate) rooms: Vec<ActionBuffers<'p>>,
@@ -35,7 +35,7 @@ pub struct ReportBuffers<'p> {
     pub(crate) output_texts: Vec<OutputTexts>,
 }
 
-/// Lists with room for what is told.
+/// Lists with capacity for what is reported.
 #[derive(Drop)]
 pub struct ReportLists {
     pub outcomes: Vec<Outcome>,
@@ -43,12 +43,12 @@ pub struct ReportLists {
     pub excused: Vec<Excuse>,
 }
 
-/// Takes all memory that the report on a plan needs, by the names of the plan's configuration. No provider is handed
-/// in, so none is called.
+/// Reserves all memory that the report on a plan needs, by the names of the plan's configuration. Is given no provider,
+/// so it calls no provider.
 ///
 /// # Errors
 ///
-/// Only where memory runs out.
+/// Fails with `AllocError` if memory runs out.
 pub fn reserve_report<'p>(
     alloc: Global,
     plan: &'p Plan,
@@ -74,7 +74,7 @@ pub fn reserve_report<'p>(
     })
 }
 
-/// Lists with room for what is told of so many actions and outputs.
+/// Returns lists with capacity for what is reported of the given numbers of actions and outputs.
 fn lists_for(alloc: Global, actions: usize, outputs: usize) -> Result<ReportLists, AllocError>
     ensures { IfOk result (AreEmptyLists actions outputs) }
 {
@@ -85,7 +85,7 @@ fn lists_for(alloc: Global, actions: usize, outputs: usize) -> Result<ReportList
     })
 }
 
-/// The records that are given anew, and room for what each action changes.
+/// Returns the metadata updates, and lists with capacity for what each action changes.
 fn events_for<'p>(
     alloc: Global,
     plan: &'p Plan,
@@ -111,7 +111,7 @@ fn events_for<'p>(
     }
 }
 
-/// What the state after the actions of a plan is made of.
+/// Returns the draft of the state after the actions of a plan.
 fn draft_of(alloc: Global, plan: &Plan) -> Result<StateDraft<'_>, AllocError>
     ensures { IfOk result (IsStateDraft (plan_of plan.now).prior (applied_addrs (plan_of plan.now).actions)) }
 {
@@ -119,7 +119,7 @@ fn draft_of(alloc: Global, plan: &Plan) -> Result<StateDraft<'_>, AllocError>
     draft_state(alloc, &plan.prior, &addrs)
 }
 
-/// The resources of creates and updates, as often as there are such actions.
+/// Returns the resources of creates and updates, as often as there are such actions.
 fn addrs_of(alloc: Global, actions: &[Action]) -> Result<Vec<&ResourceAddr>, AllocError>
     ensures { IfOk result (λ addrs. map (λ l. addr_of l.now) addrs.items ≡ applied_addrs (map action_of actions.now)) }
 {
@@ -130,7 +130,7 @@ fn addrs_of(alloc: Global, actions: &[Action]) -> Result<Vec<&ResourceAddr>, All
     Ok(addrs)
 }
 
-/// Adds the resource of an action, where that creates or updates an object.
+/// Adds the resource of an action, if that creates or updates an object.
 fn add_addr<'a>(addrs: &mut Vec<&'a ResourceAddr>, action: &'a Action) -> Result<(), AllocError>
     ensures { OnOk result (map (λ l. addr_of l.now) addrs.new.items ≡ map (λ l. addr_of l.now) addrs.old.items
         ++ (if is_apply (action_of action.now).step then (action_of action.now).addr ∷ [] else [])) }
@@ -141,7 +141,7 @@ fn add_addr<'a>(addrs: &mut Vec<&'a ResourceAddr>, action: &'a Action) -> Result
     Ok(())
 }
 
-/// Room for what comes of the outputs of a plan.
+/// Returns the buffers for the outputs of a plan.
 fn settling_for<'p>(
     alloc: Global,
     plan: &'p Plan,
@@ -164,7 +164,7 @@ fn settling_for<'p>(
     })
 }
 
-/// An empty list with room for two numbers of items together.
+/// Returns an empty list with capacity for two numbers of items together.
 fn with_both<T: Drop>(alloc: Global, first: usize, second: usize) -> Result<Vec<T>, AllocError>
     ensures none { IfOk result (λ v. v.items ≡ []) }
     ensures room { IfOk result (λ v. first + second ≤ vec_capacity v) }
@@ -177,7 +177,7 @@ fn with_both<T: Drop>(alloc: Global, first: usize, second: usize) -> Result<Vec<
     Ok(items)
 }
 
-/// So many places, none of which is marked.
+/// Returns the given number of marks, all unset.
 fn unmarked(alloc: Global, count: usize) -> Result<Vec<bool>, AllocError>
     ensures { IfOk result (λ v. length v.items ≡ count) }
 {
@@ -188,7 +188,7 @@ fn unmarked(alloc: Global, count: usize) -> Result<Vec<bool>, AllocError>
     Ok(marks)
 }
 
-/// The places of so many actions.
+/// Returns the indexes of the given number of actions.
 fn places(alloc: Global, count: usize) -> Result<Vec<usize>, AllocError>
     ensures { IfOk result (λ v. v.items ≡ range_with_len 0 count) }
 {

@@ -1,4 +1,4 @@
-//! What comes of outputs, once all actions have ended.
+//! The outcomes of outputs, once all actions have ended.
 
 ghost use Rattle.std.specs.Prelude.{◌≡◌, ◌<◌, ◌≤◌, ℕ, [], List, length, map, vec_capacity};
 ghost use Rattle.tf_walk_action.specs.Words.{action_of, done_at, action_results_of, entries_view, has, IsTable, names_in, outputs_of, plan_of, seen_by};
@@ -18,32 +18,32 @@ use tf_state_data::Object;
 use tf_walk_action::{ActionResult, Answered};
 use tf_walk_outputs::{OutputBuffers, OutputResult, renew_outputs, settle_names};
 
-/// Room for what comes of outputs.
+/// The buffers for outputs.
 #[derive(Drop)]
 pub struct Settling<'p> {
-    /// For the place of each name, room for whether all creates and updates of its resource are good.
+    /// For each name's index, a mark for whether all creates and updates of its resource are good.
     pub good: Vec<bool>,
-    /// For the place of each name, room for whether it is settled.
+    /// For each name's index, a mark for whether the name is settled.
     pub settled: Vec<bool>,
-    /// The places of all actions.
+    /// The indexes of all actions.
     pub seen: Vec<usize>,
-    /// Room for what comes of each output.
+    /// The buffers for each output.
     pub rooms: Vec<OutputBuffers<'p>>,
-    /// Room for what is told of each output.
+    /// An empty list with capacity for the outcome of each output.
     pub ends: Vec<OutputResult>,
     /// The prior values of outputs that are still declared, by name.
     pub kept: BTreeMap<String, Object>,
 }
 
-/// The values of outputs by name, and what is told of each output.
+/// The values of outputs by name, and the outcome of each output.
 #[derive(Drop)]
 pub struct OutputValues {
     pub values: BTreeMap<String, Object>,
     pub ends: Vec<OutputResult>,
 }
 
-/// What comes of the outputs, by what came of the actions. Memory for an output's value may be refused, which is told of
-/// the output.
+/// Evaluates the outputs, by the results of the actions. If memory runs out for an output's value, that is the output's
+/// outcome.
 pub fn outputs_after(
     alloc: Global,
     plan: &Plan,
@@ -86,7 +86,7 @@ pub fn outputs_after(
     OutputValues { values, ends }
 }
 
-/// Of which resources all creates and updates are good, by the places of their names.
+/// Returns which resources have only good creates and updates, by the indexes of their names.
 fn noted(mut good: Vec<bool>, actions: &[Action], results: &[Option<ActionResult>]) -> Vec<bool>
     requires { length results.now ≡ length actions.now }
     ensures length { length result.items ≡ length good.items }
@@ -96,7 +96,7 @@ fn noted(mut good: Vec<bool>, actions: &[Action], results: &[Option<ActionResult
     good
 }
 
-/// Which names are settled, by their places.
+/// Returns which names are settled, by their indexes.
 fn settled_by(declared: &Module, good: &[bool], mut settled: Vec<bool>) -> Vec<bool>
     requires good { length good.now ≡ length (names_in declared.now.names.now) }
     requires settled { length settled.items ≡ length (names_in declared.now.names.now) }

@@ -1,4 +1,4 @@
-//! What is told of a call, without taking memory.
+//! What is reported of a call, without taking memory.
 
 ghost use Rattle.std.specs.Prelude.{◌≡◌, ◌++◌, ℕ, [], true, List, Option, Some, codes, option_map, string_bytes, string_capacity};
 ghost use Rattle.tf_walk_action.specs.Words.{Answer, Asked, message_fits, tree_of};
@@ -12,8 +12,8 @@ use tf_config_refusal::Code;
 use tf_provider::Verdict;
 use tf_value_data::Value;
 
-/// What is told of a call, by the verdict on its reply: a code and a message. The message is the one of a failure, or it is
-/// written into the room that was made for it.
+/// Returns what is reported of a call, if anything, by the verdict on its reply: a code and a message. The message is
+/// that of a failure, or it is written into `message`, which has capacity for it.
 pub fn telling(
     verdict: Verdict,
     mut message: String,
@@ -41,7 +41,7 @@ pub fn telling(
     }
 }
 
-/// The message of a failure in one line, or else an empty one.
+/// Returns the message of a failure in one line, or else an empty one.
 fn failed(message: String, failure: Option<String>) -> String
     requires { string_bytes message ≡ [] }
     ensures { (answer : Option Answer) → failure_in answer ≡ option_map string_bytes failure
@@ -53,7 +53,7 @@ fn failed(message: String, failure: Option<String>) -> String
     }
 }
 
-/// The message about a reply that contradicts what was planned, in the room that was made for it.
+/// Writes the message about a reply that contradicts the plan into `message`, which has capacity for it.
 fn contradiction(mut message: String, object: &Option<Value>, place: usize) -> String
     requires blank { string_bytes message ≡ [] }
     requires fits { message_fits (string_capacity message) (option_map tree_of object.now) ≡ true }

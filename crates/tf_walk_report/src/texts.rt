@@ -1,4 +1,4 @@
-//! What the report on an output needs memory for.
+//! The memory that the report on an output needs.
 
 ghost use Rattle.std.specs.Prelude.{◌≡◌, ◌≤◌, [], string_bytes, string_capacity};
 
@@ -7,7 +7,7 @@ ghost use Rattle.std.specs.Prelude.{◌≡◌, ◌≤◌, [], string_bytes, stri
 pub struct OutputTexts {
     /// `output.NAME`
     pub place: String,
-    /// An empty text, with room for each message.
+    /// An empty text, with capacity for each message.
     pub message: String,
     pub ghost blank: { string_bytes message ≡ [] },
     pub ghost long: { 21 ≤ string_capacity message },

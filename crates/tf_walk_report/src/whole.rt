@@ -20,8 +20,8 @@ use tf_provider::{Journal, Provider};
 use tf_state_next::state_after;
 use tf_walk_action::ActionResult;
 
-/// The report on a plan, by what came of each of its actions, in action order. It has no answer that says that there was
-/// no memory: none is taken, but for the values of outputs, and where that is refused it is told of the output.
+/// Builds the report on a plan from the result of each of its actions, in action order. Has no error for running out of
+/// memory: it allocates only for the values of outputs, and reports a failed allocation on that output.
 pub fn report_of(
     alloc: Global,
     plan: &Plan,

@@ -14,19 +14,19 @@ use Rattle.tf_walk_action.specs.Journal.{IsOfAction, verdict_in, entered_verdict
 use Rattle.tf_walk_action.specs.Outcome.{ActionResultView, skipped, Requests, AreRequests, all_good, call_at}
 use Rattle.tf_walk_action.specs.Run.{IsRun}
 
--- An action is skipped where one directly before it isn't good, and else it is called, faulted or excused.
+-- An action is skipped if one directly before it isn't good. Otherwise it is called, faulted or excused.
 abbrev pub IsEnd : List Meaning → Requests → PlanView → ℕ → List (ℕ × ActionResultView) → ActionResultView → Type 0
 IsEnd ms requests plan n seen d = MatchBool (all_good seen) (IsRun (call_at ms requests plan n seen) d) (d ≡ skipped)
 
--- what came of an action so far
+-- the result of an action, if it has ended so far
 abbrev pub end_at : List (Option ActionResultView) → ℕ → Option ActionResultView
 end_at ends n = slice_index_or ends n None
 
--- what came of an action; one that hasn't ended counts as skipped
+-- the result of an action; one that hasn't ended counts as skipped
 abbrev pub done_in : List (Option ActionResultView) → ℕ → ActionResultView
 done_in ends n = unwrap_or (end_at ends n) skipped
 
--- how far an action is
+-- the stage of an action in a book
 abbrev pub stage_of : Option ActionResultView → Stage
 stage_of None = stage.Free
 stage_of (Some d) = stage.Done
@@ -35,8 +35,8 @@ stage_of (Some d) = stage.Done
 abbrev pub IsStaged : List Stage → List (Option ActionResultView) → Type 0
 IsStaged stages ends = (n : ℕ) → stage_in stages n ≡ stage_of (end_at ends n)
 
--- What a walk has done so far: each action that has ended did so as it has to, after all that stands before it,
--- and the journal has the calls that were made.
+-- What a walk has done so far: each action that has ended did so by the rule, after all actions directly before it, and
+-- the journal has the calls that were made.
 pub record IsSoFar (ms : List Meaning) (plan : PlanView) (ends : List (Option ActionResultView)) (entries : List Entry) : Type 0 where
   pub sized : length ends ≡ length plan.actions
   pub closed : (n : ℕ) → is_some (end_at ends n) ≡ true → list_all (λ m. is_some (end_at ends m)) (predecessors_of plan.order n) ≡ true
@@ -44,10 +44,10 @@ pub record IsSoFar (ms : List Meaning) (plan : PlanView) (ends : List (Option Ac
   pub entered : (n : ℕ) → verdict_in entries n ≡ option_and_then entered_verdict (end_at ends n)
   pub ops : AllByRecursion (IsOfAction plan.actions) entries
 
--- an action's entry, with what its provider was to do, is added to a journal where its end calls for one
+-- an action's entry, with its operation, is added to a journal if its result calls for one
 abbrev pub Enters : ℕ → Option Op → ActionResultView → List Entry → List Entry → Type 0
 Enters n op d old new = MatchOption (entered_verdict d) (new ≡ old) (λ v. (e : Entry) × (e.action ≡ n) × (Some e.op ≡ op) × (e.verdict ≡ v) × (new ≡ old ++ e ∷ []))
 
--- where nothing is left to do, each action has ended
+-- each action has ended
 abbrev pub AllHaveEnded : PlanView → List (Option ActionResultView) → Type 0
 AllHaveEnded plan ends = (n : ℕ) → n < length plan.actions → is_some (end_at ends n) ≡ true

@@ -2,7 +2,7 @@
 use Rattle.std.specs.Prelude.{◌≡◌, ◌<◌, ◌≤◌, ℕ, false}
 use Rattle.tf_claim.specs.Ledger.{Ledger, is_claimable}
 
--- An action is the first that may be claimed from a place on, or, where there is none there, the first of all.
+-- An action is the first one from an index on that may be claimed, or, if there is no such action, the first of all.
 pub record IsNext (l : Ledger) (from n : ℕ) : Type 0 where
   pub between : (m : ℕ) → from ≤ m → m < n → is_claimable l m ≡ false
   pub beyond : n < from → (m : ℕ) → from ≤ m → m < l.graph.nodes → is_claimable l m ≡ false

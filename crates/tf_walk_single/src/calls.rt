@@ -35,7 +35,7 @@ pub fn make_call(
     }
 }
 
-/// The evidence that one of some actions isn't good, of the first that isn't; `None` where all are good. All of them have
+/// Returns the evidence for the first of some actions that isn't good, or `None` if all are good. All of them have
 /// ended.
 pub fn first_not_good(results: &[Option<ActionResult>], actions: &[usize]) -> Option<NotGood>
     requires within { All (λ n. n < length results.now) actions.now }
@@ -50,7 +50,7 @@ pub fn first_not_good(results: &[Option<ActionResult>], actions: &[usize]) -> Op
     None
 }
 
-/// The evidence that an action isn't good, where it isn't. It has ended.
+/// Returns the evidence that an action isn't good, or `None` if it is good. It has ended.
 fn not_good(ended: &Option<ActionResult>) -> Option<NotGood>
     requires { is_some ended.now ≡ true }
     ensures { is_none result ≡ is_good (result_or_skipped ended.now) }

@@ -7,8 +7,8 @@ ghost use Rattle.tf_walk_single.specs.Next.{IsNext};
 
 use tf_claim::{Book, Finished, Permit};
 
-/// A permit for the first action that may be claimed from a place on, or else for the first before it, which is then taken; `None`
-/// where there is none.
+/// Takes the first action from an index on that may be claimed, or else the first one before it, and returns its
+/// permit. Returns `None` if no action may be claimed.
 pub fn next_permit(book: &mut Book, from: usize) -> Option<Permit>
     ensures claimed { MatchOption result
         ((book.new ≡ book.old) × ((n : ℕ) → n < book.old.graph.nodes → is_claimable book.old n ≡ false))

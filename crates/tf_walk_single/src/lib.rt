@@ -1,8 +1,8 @@
-//! The walk of one thread: each action of a plan is claimed by a book, asked and called, and what came of it is kept for those
-//! behind it.
+//! The walk of one thread. It claims each action of a plan from a book, builds its request, calls its provider, and
+//! keeps the result for the actions after it.
 //!
-//! It begins with a book, a journal and a list of results, which `tf_walk` makes room for before the first call, and leaves in
-//! them what came of each action.
+//! It begins with a book, a journal and a list of results, which `tf_walk` allocates before the first call, and leaves
+//! the result of each action in them.
 #![tactic(auto)]
 
 mod calls;

@@ -17,9 +17,9 @@ use tf_plan_data::Plan;
 use tf_provider::{Journal, Provider, first_provider};
 use tf_walk_action::{ActionResult, Answered, Faulted, NotGood, PreparedCall, Stop, ask_provider};
 
-/// Ends a claimed action: skips it where an action directly before it isn't good; leaves it where the walk is to stop by
-/// then; excuses it where memory for its request is refused; tells what is wrong where its request has a fault; and else
-/// calls its provider. `memo` is what is kept of the requests before, for those that follow.
+/// Ends a claimed action. Skips it if an action directly before it isn't good. Leaves it if the walk is to stop by
+/// then. Excuses it if memory for its request runs out. Reports what is wrong if its request has a fault. Otherwise
+/// calls its provider. `memo` is what is kept of earlier requests, for those that follow.
 pub fn end_action(
     alloc: Global,
     plan: &Plan,
@@ -62,8 +62,9 @@ pub fn end_action(
     }
 }
 
-/// The evidence that an action directly before one isn't good, where one isn't; else the memo is for that action from now on.
-/// All of them have ended, and where the memo holds for it they are known to be good.
+/// Returns the evidence that an action directly before one isn't good, if there is such an action. Otherwise the memo
+/// is for the given action from now on. All actions directly before it have ended. If the memo holds for it, they are
+/// known to be good.
 fn not_good_before(
     plan: &Plan,
     results: &[Option<ActionResult>],
@@ -94,12 +95,12 @@ fn not_good_before(
     }
 }
 
-/// What is asked for an action that the memo is for, or what is wrong with its request, by what came of the actions before it.
-/// What may come of that is how the action ends.
+/// Builds the request of the action that the memo is for, or returns what is wrong with it, by the results of the
+/// actions before it. Each outcome that this may have is one with which the action may end.
 ///
 /// # Errors
 ///
-/// Only where memory runs out. What the memo keeps is true then too.
+/// Fails with `AllocError` if memory runs out. What the memo keeps is true then too.
 fn ask(
     alloc: Global,
     plan: &Plan,
@@ -129,7 +130,7 @@ fn ask(
     ask_provider(alloc, plan, names, providers, &actions[action], &seen, kept)
 }
 
-/// What is seen of the actions directly before one.
+/// Returns what a request sees of the actions directly before its own.
 fn seen_before<'a>(
     plan: &'a Plan,
     names: &'a Declarations<'a>,

@@ -15,8 +15,8 @@ use tf_plan_data::Plan;
 use tf_provider::{Journal, Provider};
 use tf_walk_action::{ActionResult, Stop};
 
-/// Takes every action of a plan to its end, from the first on as long as one may be claimed, and again from the first on; once the
-/// walk is to stop, no further provider is called.
+/// Takes every action of a plan to its end. Goes from the first on as long as an action may be claimed, and then again
+/// from the first on. Once the walk is to stop, calls no further provider.
 pub fn walk(
     alloc: Global,
     plan: &Plan,
@@ -52,7 +52,7 @@ pub fn walk(
     }
 }
 
-/// Keeps what came of an action, of which nothing is kept yet.
+/// Stores the result of an action that has none yet.
 fn keep(results: &mut [Option<ActionResult>], action: usize, ended: ActionResult)
     requires within { action < length results.old }
     requires free { end_at (map (option_map action_result_of) results.old) action ≡ None }

@@ -1,8 +1,8 @@
--- What is known of the hints of one worker.
+-- What is known of one worker's hints.
 use Rattle.std.specs.Prelude.{ℕ}
 
--- How many hints there is room for, and up to which place they stand. A pop never raises that place, and one that takes a
--- hint beside others lowers it; a hint that is stolen leaves its place taken, until those after it are popped.
+-- The capacity for hints, and the number of occupied places. A pop never raises that number, and a pop that takes one
+-- of several hints lowers it. A stolen hint leaves its place occupied until the hints after it are popped.
 pub record Hoard : Type 0 where
   pub room : ℕ
   pub height : ℕ

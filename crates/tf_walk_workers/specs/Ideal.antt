@@ -1,4 +1,4 @@
--- What is true of an end of an action, whichever the outcomes are that its plan has where nothing is excused.
+-- When a result of an action is true, whichever outcomes its plan has if nothing is excused.
 use Rattle.std.specs.Prelude.{◌≡◌, ◌<◌, ℕ, true, false, List, [], length, slice_index, ⊤}
 use Rattle.tf_graph.specs.Digraph.{predecessors_of}
 use Rattle.tf_graph.specs.Solutions.{Solves, seen_by}
@@ -9,17 +9,17 @@ use Rattle.tf_walk_action.specs.declared.action_result.ActionResult.{ActionResul
 use Rattle.tf_walk_action.specs.Excuse.{before_call, during_call, by_stop}
 use Rattle.tf_walk_action.specs.Outcome.{ActionResultView, skipped, excused, Requests, AreRequests, all_good, is_faulted, is_good, rule}
 
--- Ideal outcomes are those of a plan where nothing is excused.
+-- Ideal outcomes are those of a plan if nothing is excused.
 abbrev pub IsIdeal : List Meaning → PlanView → Requests → (ℕ → ActionResultView) → Type 0
 IsIdeal ms plan requests ideal = AreRequests plan requests × Solves (length plan.actions) (predecessors_of plan.order) (rule ms requests plan []) ideal
 
--- what holds of all ideal outcomes
+-- something holds of all ideal outcomes
 abbrev pub InEachIdeal : List Meaning → PlanView → ((ℕ → ActionResultView) → Type 0) → Type 0
 InEachIdeal ms plan Holds = (requests : Requests) (ideal : ℕ → ActionResultView) → IsIdeal ms plan requests ideal → Holds ideal
 
--- An end of an action agrees with ideal outcomes: a call and a fault are the ideal ones. Where it was excused during its
--- call, all before it is good in the ideal, and its request has no fault there. Of one that was skipped, excused before
--- its call or left nothing is said.
+-- A result of an action agrees with ideal outcomes. A call or a fault is the ideal one. If the action was excused
+-- during its call, all actions directly before it are good in the ideal, and its request has no fault there. There is
+-- no condition if the action was skipped, excused before its call or left.
 abbrev pub AgreesWith : (ℕ → List ℕ) → (ℕ → ActionResultView) → ℕ → ActionResultView → Type 0
 AgreesWith before ideal n skipped = ⊤
 AgreesWith before ideal n (excused before_call) = ⊤
@@ -27,11 +27,11 @@ AgreesWith before ideal n (excused by_stop) = ⊤
 AgreesWith before ideal n (excused during_call) = (all_good (seen_by ideal (before n)) ≡ true) × (is_faulted (ideal n) ≡ false)
 AgreesWith before ideal n d = d ≡ ideal n
 
--- an end of an action of a plan is true: it agrees with all ideal outcomes
+-- a result of an action of a plan is true: it agrees with all ideal outcomes
 abbrev pub IsTrueTo : List Meaning → PlanView → ℕ → ActionResultView → Type 0
 IsTrueTo ms plan n d = InEachIdeal ms plan (λ ideal. AgreesWith (predecessors_of plan.order) ideal n d)
 
--- What came of an action is of this one, has its cause directly before it where it is a skip, and is true of the action.
+-- A result is of this action, has its cause directly before the action if it is a skip, and is true of the action.
 abbrev pub IsEndOf : List Meaning → PlanView → ℕ → ActionResult → Type 0
 IsEndOf ms plan n ended = (ended_action ended ≡ n) × HasCause plan.order ended × IsTrueTo ms plan n (action_result_of ended)
 
@@ -39,6 +39,6 @@ IsEndOf ms plan n ended = (ended_action ended ≡ n) × HasCause plan.order ende
 abbrev pub IsGoodInEach : List Meaning → PlanView → ℕ → Type 0
 IsGoodInEach ms plan n = InEachIdeal ms plan (λ ideal. is_good (ideal n) ≡ true)
 
--- each of some cells is that of the action at its place
+-- each of some cells is numbered by its place
 abbrev pub IsNumbered : List ℕ → Type 0
 IsNumbered cells = (n : ℕ) → n < length cells → slice_index cells n ≡ n

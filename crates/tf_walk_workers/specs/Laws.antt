@@ -1,4 +1,4 @@
--- Which ends are true, by what is seen of the actions before; and what true ends of all actions are.
+-- Which results are true, given the results read before an action, and what the true results of all actions are.
 use Rattle.std.specs.Prelude.{◌≡◌, ◌<◌, ℕ, Bool, true, false, not, List, length}
 use Rattle.tf_graph.specs.Digraph.{predecessors_of}
 use Rattle.tf_graph.specs.Solutions.{Ranked, seen_by}
@@ -10,17 +10,18 @@ use Rattle.tf_walk_action.specs.declared.excuse.Excuse.{Excuse}
 use Rattle.tf_walk_workers.specs.Ideal.{IsTrueTo}
 use Rattle.tf_walk_workers.specs.SeenResult.{AreShown}
 
--- Where all before an action are good, something holds of what comes of it, by what is seen of them.
+-- Something holds of the result of an action's call, given the results read of the actions before it, which are all
+-- good.
 abbrev pub OfCall : List Meaning → PlanView → ℕ → List (ℕ × ActionResultView) → (ActionResultView → Type 0) → Type 0
 OfCall ms plan n seen Holds = (requests : Requests) → AreRequests plan requests → Holds (call_at ms requests plan n seen)
 
--- What comes of an action, by what is seen of those before it, is true.
+-- The result of an action's call, given the results read before it, is true.
 abbrev pub CallsAreTrue : Type 0
 CallsAreTrue =
     (ms : List Meaning) (plan : PlanView) (n : ℕ) (seen : List (ℕ × ActionResultView)) (d : ActionResultView) → n < length plan.actions
     → AreShown ms plan (predecessors_of plan.order n) seen → OfCall ms plan n seen (λ call. d ≡ call) → IsTrueTo ms plan n d
 
--- And so it is true of an action that it was excused during its call, where its request has no fault.
+-- An excuse during the call is true of an action too, if its request has no fault.
 abbrev pub ExcusesAreTrue : Type 0
 ExcusesAreTrue =
     (ms : List Meaning) (plan : PlanView) (n : ℕ) (seen : List (ℕ × ActionResultView)) → n < length plan.actions
@@ -30,14 +31,14 @@ abbrev pub is_skipped : ActionResultView → Bool
 is_skipped skipped = true
 is_skipped _ = false
 
--- Ends of all actions fit together: each is true, and an action is skipped exactly where one directly before it isn't
+-- Results of all actions fit together: each is true, and an action is skipped exactly if one directly before it isn't
 -- good.
 pub record FitTogether (ms : List Meaning) (plan : PlanView) (done : List ActionResultView) : Type 0 where
   pub all : length done ≡ length plan.actions
   pub fits : (n : ℕ) → IsTrueTo ms plan n (done_at done n)
   pub skips : (n : ℕ) → n < length plan.actions → is_skipped (done_at done n) ≡ not (all_good (seen_by (done_at done) (predecessors_of plan.order n)))
 
--- Such ends are the plan's outcomes, with excuses that name exactly the excused actions.
+-- Results that fit together are the plan's outcomes, with excuses that name exactly the excused actions.
 abbrev pub TrueEndsAreOutcomes : Type 0
 TrueEndsAreOutcomes =
     (ms : List Meaning) (plan : PlanView) (done : List ActionResultView) → Ranked (predecessors_of plan.order) → FitTogether ms plan done
@@ -45,7 +46,7 @@ TrueEndsAreOutcomes =
     → (excuses : List Excuse) → ((n : ℕ) → n < length plan.actions → excuse_of excuses n ≡ excuse_in (done_at done n))
     → AreOutcomes ms requests plan excuses done
 
--- And the request of an action that was excused during its call has no fault.
+-- The request of an action that was excused during its call has no fault.
 abbrev pub ExcusedHaveNoFault : Type 0
 ExcusedHaveNoFault =
     (ms : List Meaning) (plan : PlanView) (done : List ActionResultView) → Ranked (predecessors_of plan.order) → FitTogether ms plan done

@@ -1,4 +1,4 @@
--- What a worker keeps of the requests that it made.
+-- What a worker remembers of its requests.
 use Rattle.std.specs.Prelude.{◌<◌, List, map}
 use Rattle.tf_plan_data.specs.Action.{action_of}
 use Rattle.tf_walk_action.specs.SoFar.{ResolvedSoFar}
@@ -13,8 +13,8 @@ use Rattle.tf_state_data.specs.State.{state_of}
 use Rattle.tf_walk_workers.specs.Seen.{AreSeen}
 use Rattle.tf_walk_workers.specs.declared.memo.Memo.{Memo}
 
--- A memo of an action of a plan is true: all actions directly before that one are good, what came of them is seen, and what
--- stands so far stands by it.
+-- A memo of an action of a plan is true: all actions directly before that one are good and their results are read,
+-- and the values of names so far are right by these results.
 pub record IsTrueMemo {N : Type 0} (ms : List Meaning) (walk : PlanView) (plan : Plan) (names : List NameView) (memo : Memo N) : Type 0 where
   pub inside : memo.action < plan.order.nodes
   pub seen : AreSeen ms walk plan names memo.action memo.before

@@ -1,4 +1,4 @@
--- A plan in which there is nothing to do.
+-- A plan without actions.
 use Rattle.std.specs.Prelude.{[], false}
 use Rattle.tf_expand_keys.specs.InstanceKeys as shape
 use Rattle.tf_plan_data.specs.Plan.{PlanView}

@@ -1,4 +1,4 @@
--- What one worker has of its own.
+-- What each worker has for itself.
 use Rattle.std.specs.Prelude.{◌≡◌, List, IfSome}
 use Rattle.tf_claim.specs.Claims.{Shared}
 use Rattle.tf_config_data.specs.Names.{NameView}
@@ -8,7 +8,7 @@ use Rattle.tf_provider_protocol.specs.Meaning.{Meaning}
 use Rattle.tf_walk_workers.specs.declared.worker.Post.{Post}
 use Rattle.tf_walk_workers.specs.Memo.{IsTrueMemo}
 
--- A worker sits at the claims of its walk, and what it saw for the last action that it asked for is true.
+-- A worker's seat is at the claims of its walk, and its memo of the last request is true.
 pub record IsPost {N : Type 0} (ms : List Meaning) (walk : PlanView) (plan : Plan) (names : List NameView) (claims : Shared) (post : Post N) : Type 0 where
   pub seat : post.worker_state.seat.table ≡ claims.table
   pub memo : IfSome post.memo (IsTrueMemo ms walk plan names)

@@ -1,19 +1,19 @@
--- What is read from a cell.
+-- The result that is read from a cell.
 use Rattle.std.specs.Prelude.{ℕ, Option, Some}
 use Rattle.tf_walk_action.specs.ResultViews.{action_result_of}
 use Rattle.tf_walk_action.specs.Outcome.{ActionResultView, skipped}
 use Rattle.tf_walk_workers.specs.declared.kept.CellResult.{CellResult}
 use Rattle.tf_walk_workers.specs.declared.reading.Reading.{Reading}
 
--- what came of an action that is in its cell; where nothing is there it counts as skipped
+-- the result in an action's cell; an empty cell counts as skipped
 abbrev pub done_held : {N : Type 0} → Option (Option (CellResult N)) → ActionResultView
 done_held (Some (Some kept)) = action_result_of kept.ended
 done_held _ = skipped
 
--- what came of an action, by a reading
+-- the result of a reading
 abbrev pub done_in : {N : Type 0} → Reading N → ActionResultView
 done_in r = done_held r.claim.value
 
--- the action of a reading, and what came of it
+-- the action of a reading, and its result
 abbrev pub seen_in : {N : Type 0} → Reading N → ℕ × ActionResultView
 seen_in r = (r.action, done_in r)

@@ -1,4 +1,4 @@
--- What workers share is of one walk.
+-- That what workers share belongs to one walk.
 use Rattle.std.specs.Prelude.{◌≡◌, ℕ, List, map}
 use Rattle.tf_plan_data.specs.Action.{action_of}
 use Rattle.tf_config_data.specs.Config.{config_of}
@@ -9,8 +9,9 @@ use Rattle.tf_plan_data.specs.Served.{AreServed}
 use Rattle.tf_plan_data.specs.declared.plan.Plan.{Plan}
 use Rattle.tf_provider_protocol.specs.Meaning.{Meaning}
 
--- All that a worker reads is of the walk that its plan and its providers' meanings name: the plan's parts fit together, the
--- names are those of its configuration, the providers have the types of its actions, and there is a cell for each of these.
+-- All that a worker reads belongs to the walk of this plan and of these providers' meanings. The plan's parts fit
+-- together, the names are those of its configuration, the providers have the types of its actions, and each action
+-- has a cell.
 pub record IsOfWalk (plan : PlanView) (ms : List Meaning) (p : Plan) (names : List NameView) (cells : ℕ) (providers : List Meaning) : Type 0 where
   pub fits : FitsTogether p
   pub named : names ≡ names_of (config_of p.config)

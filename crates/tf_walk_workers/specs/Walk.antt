@@ -7,7 +7,7 @@ use Rattle.tf_plan_data.specs.declared.plan.Plan.{Plan}
 use Rattle.tf_provider_protocol.specs.Meaning.{Meaning}
 use Rattle.tf_walk_workers.specs.Shared.{IsOfWalk}
 
--- All that a worker reads is of one walk, and the claims are on its actions.
+-- All that a worker reads belongs to one walk, and the claims are on its actions.
 pub record IsOneWalk (plan : PlanView) (ms : List Meaning) (p : Plan) (names : List NameView) (cells : ℕ) (claimed : Digraph) (providers : List Meaning) : Type 0 where
   pub read : IsOfWalk plan ms p names cells providers
   pub claims : claimed ≡ p.order

@@ -1,4 +1,4 @@
-//! What a worker asks for an action.
+//! A worker's request for an action.
 
 ghost use Rattle.std.specs.Prelude.{◌≡◌, ◌<◌, All, map, IfOk, IfSome, IsSomeAnd, IsTrue};
 ghost use Rattle.tf_walk_action.specs.Words.{asked, asks_fully, comes_of, ActionResultView, IsRun, names_in, predecessors_of, schema_in};
@@ -16,12 +16,12 @@ use tf_provider::Provider;
 use tf_walk_action::{Faulted, PreparedCall, ask_provider};
 
 impl<'a, N: WalkBrand, R: Wait> WorkerContext<'a, N, R> {
-    /// What is asked for an action whose predecessors are all good, or what is wrong with its request, by what came of them.
-    /// What may come of that is true of the action. What was seen for it is kept for the next one.
+    /// Builds the request of an action whose predecessors are all good, or its fault, by their results. Each possible
+    /// result of that request is true of the action. The memo is updated for the next request.
     ///
     /// # Errors
     ///
-    /// Only where memory runs out. Nothing is kept then.
+    /// Fails only if memory runs out. `memo` is `None` then.
     pub(crate) fn ask(
         &self,
         providers: &[Box<dyn Provider + Sync>],
@@ -43,7 +43,7 @@ impl<'a, N: WalkBrand, R: Wait> WorkerContext<'a, N, R> {
         Ok(made)
     }
 
-    /// The same by what is known for it.
+    /// Builds the request by a memo for the action.
     fn ask_by(
         &self,
         providers: &[Box<dyn Provider + Sync>],

@@ -1,4 +1,4 @@
-//! What came of the actions before one, for its request.
+//! The results of the actions before one, for its request.
 
 ghost use Rattle.std.specs.Prelude.{◌≡◌, ◌<◌, All, IfOk, map};
 ghost use Rattle.tf_walk_action.specs.Words.{action_of, names_in, objects_seen, state_of};
@@ -17,7 +17,7 @@ use tf_value_data::Value;
 use tf_walk_action::{applies_to, prior_object};
 use tf_walk_names::Results;
 
-/// What came of some actions of a plan, all of which are good. It stays in their cells while this lives.
+/// The results of some actions of a plan, all of which are good. They stay in their cells while this lives.
 #[derive(Drop)]
 pub struct Before<'a, N: WalkBrand> {
     names: &'a Declarations<'a>,
@@ -26,10 +26,10 @@ pub struct Before<'a, N: WalkBrand> {
     readings: Vec<Reading<'a, N>>,
 }
 
-/// What is seen of some actions.
+/// What is read of some actions.
 #[derive(Drop)]
 pub enum SeenResult<'a, N: WalkBrand> {
-    /// Of one of them nothing can be read yet.
+    /// A result can't be read yet.
     Waits,
     /// One of them isn't good.
     Bad,
@@ -51,12 +51,12 @@ impl<N: WalkBrand> Results for Before<'_, N> {
 }
 
 impl<N: WalkBrand> Cells<N> {
-    /// What came of some actions of a plan, where all of them are good. Then it is what came of them in every ideal. The
-    /// names are those of the plan's configuration, and the state is the one that it starts from.
+    /// Reads the results of some actions of a plan. If all are good, these are their results in every ideal. The
+    /// names are those of the plan's configuration, and the state is the one that the plan starts from.
     ///
     /// # Errors
     ///
-    /// Only where memory runs out.
+    /// Fails only if memory runs out.
     pub fn look<'a>(
         &'a self,
         alloc: Global,

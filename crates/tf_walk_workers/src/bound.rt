@@ -1,4 +1,4 @@
-//! What is true of each hint, and which hints the workers of a walk may have.
+//! The bound of hints, and the one for the workers of a walk.
 
 ghost use Rattle.std.specs.Prelude.{ℕ, ◌<◌, All};
 
@@ -6,12 +6,12 @@ use crate::walk_brand::WalkBrand;
 use crossbeam_deque::protocol::{Outcome, Protocol};
 use std::marker::PhantomData;
 
-/// Below which number all hints of some workers are. It is for contracts alone.
+/// A bound that all hints of some workers are below. It is for contracts alone.
 pub trait HintBound {
     ghost bound: { ℕ };
 }
 
-/// Each hint is an action of the walk's plan.
+/// The bound for a walk: each hint is an action of its plan.
 pub struct PlanBound<N>(PhantomData<N>);
 
 impl<N: WalkBrand> HintBound for PlanBound<N> {
@@ -29,7 +29,7 @@ impl<B: HintBound> Protocol<usize, ()> for Below<B> {
     ghost guest = { tt };
 }
 
-/// What comes or goes is below the bound too.
+/// Each hint that is added or removed is below the bound too.
 impl<B: HintBound> Outcome<usize, ()> for Below<B> {
     ghost then = { λ _ hints _. All (λ n. n < B.bound) hints };
 }

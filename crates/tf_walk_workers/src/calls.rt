@@ -52,8 +52,8 @@ fn make_call<N: WalkBrand, R: Wait>(
     ended_by(recorded, asking.message)
 }
 
-/// Records a call. Where the journal refuses it, which it doesn't where all actions directly before its own are recorded,
-/// it waits.
+/// Records a call. If the journal refuses it, this tries again; the journal accepts it once all actions directly
+/// before its own are recorded.
 fn record<N: WalkBrand, R: Wait>(rt: &R, log: &Mutex<Log<N>>, called: Called) -> Recorded
     requires { called.action < N.plan.order.nodes }
     ensures { result ≡ called }

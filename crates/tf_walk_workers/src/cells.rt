@@ -15,8 +15,8 @@ use std::marker::{Model, PhantomData};
 use std::mem;
 use tf_walk_action::ActionResult;
 
-/// One cell for each action of a plan, into which what came of it is published, and from which it is read, without a
-/// lock. Contracts see how many there are.
+/// One cell for each action of a plan. An action's result is published in its cell, and read from there, without a
+/// lock. Contracts see the number of cells.
 pub struct Cells<N: WalkBrand> {
     cells: Vec<Counted<Option<CellResult<N>>>>,
 }
@@ -30,11 +30,11 @@ impl<N: WalkBrand> Model for Cells<N> {
 }
 
 impl<N: WalkBrand> Cells<N> {
-    /// So many cells, in which nothing is.
+    /// Allocates the given number of empty cells.
     ///
     /// # Errors
     ///
-    /// Only where memory runs out.
+    /// Fails only if memory runs out.
     pub fn new(alloc: Global, count: usize) -> Result<Cells<N>, AllocError>
         ensures { IfOk result (λ cells. cells ≡ count) }
     {
@@ -45,7 +45,7 @@ impl<N: WalkBrand> Cells<N> {
         Ok(Cells { cells })
     }
 
-    /// The cell of an action.
+    /// Returns the cell of an action.
     fn cell(&self, action: usize) -> &Counted<Option<CellResult<N>>>
         requires { action < self.now }
         ensures { result.now ≡ action }
@@ -53,12 +53,12 @@ impl<N: WalkBrand> Cells<N> {
         &self.cells[action]
     }
 
-    /// Publishes what came of an action: of it, as the evidence in it says.
+    /// Publishes a result of an action, which is true of it.
     ///
     /// # Errors
     ///
-    /// Where something was published for the action already, or is just being published: what isn't in the cell comes
-    /// back.
+    /// Fails with the result that isn't in the cell if a result was already published for the action, or is being
+    /// published.
     pub fn publish(&self, action: usize, ended: ActionResult) -> Result<(), ActionResult>
         requires action { action < self.now }
         requires own { IsEndOf N.meanings N.plan action ended }
@@ -79,7 +79,7 @@ impl<N: WalkBrand> Cells<N> {
         }
     }
 
-    /// What came of an action, where that can be read.
+    /// Reads the result of an action, if it can be read.
     pub fn read(&self, action: usize) -> Option<Reading<'_, N>>
         requires { action < self.now }
         ensures { IfSome result (λ reading. reading.action ≡ action) }
@@ -99,7 +99,7 @@ impl<N: WalkBrand> Cells<N> {
         None
     }
 
-    /// Takes out all that was published, each into the place of its action.
+    /// Moves each published result to the place of its action in a list.
     pub fn take_out(self, results: &mut [Option<ActionResult>])
         requires { results.old ≡ replicate self None }
         ensures length { length results.new ≡ self }
@@ -116,14 +116,14 @@ impl<N: WalkBrand> Cells<N> {
     }
 }
 
-/// Whether one more may read a cell with this word.
+/// Returns whether another reader may read a cell with this word.
 fn may_be_read(word: u64) -> bool
     ensures { IsTrue result → IsTurn word (word + 4) }
 {
     word % ONE_READER == PRESENT && word % 0x1_0000_0000 / ONE_READER < MOST_READERS
 }
 
-/// Puts what came of an action into its place, in which nothing is yet.
+/// Stores an action's result in its place, which is empty.
 fn place(results: &mut [Option<ActionResult>], action: usize, ended: ActionResult)
     requires action { action < length results.old }
     requires free { slice_index_or results.old action None ≡ None }

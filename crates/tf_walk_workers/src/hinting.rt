@@ -7,20 +7,20 @@ use crate::hints::Hints;
 use crate::walk_brand::WalkBrand;
 use tf_claim::Listener;
 
-/// A worker's hints. As it ends an action, it gives one at each action that it let go of the last edge into: so whoever follows
-/// the hint finds that action free.
+/// A worker's hints. When it ends an action, it gives a hint at each action into which it released the last edge. So
+/// the worker that follows the hint finds that action free.
 #[derive(Drop)]
 pub struct Hinting<N: WalkBrand> {
-    /// Its hints.
+    /// The hints.
     pub hints: Hints<PlanBound<N>>,
-    /// How many actions it heard of since it last began.
+    /// The number of actions that it heard of since the last `begin`.
     pub free: u64,
-    /// Whether a hint at one of them was lost, for want of room.
+    /// Whether a hint at one of them was lost, as there was no space for it.
     pub is_lost: bool,
 }
 
 impl<N: WalkBrand> Hinting<N> {
-    /// Begins anew, as the next action ends.
+    /// Resets the count and `is_lost`, as the next action ends.
     pub(crate) fn begin(&mut self)
         ensures { self.new.free ≡ 0 }
     {

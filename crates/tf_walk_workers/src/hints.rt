@@ -1,4 +1,4 @@
-//! The hints of one worker, and how others take them.
+//! The hints of one worker, and how others steal them.
 
 ghost use Rattle.std.specs.Prelude.{◌≡◌, ◌+◌, ◌<◌, ◌≤◌, IfOk, IfSome, MatchBool};
 
@@ -23,18 +23,18 @@ impl<B: HintBound> Model for Hints<B> {
     ghost view = { λ h. record { room = worker_capacity h.own; height = worker_index h.own } };
 }
 
-/// With which any worker steals the hints of one.
+/// The handle with which any worker steals the hints of one.
 #[derive(Drop)]
 pub struct HintStealer<B: HintBound> {
     of: Stealer<usize, Global, (), Below<B>>,
 }
 
 impl<B: HintBound> Hints<B> {
-    /// No hints, with room for so many at first.
+    /// Allocates an empty list of hints, with space for the given number.
     ///
     /// # Errors
     ///
-    /// Only where memory runs out.
+    /// Fails only if memory runs out.
     pub fn new(alloc: Global, room: usize) -> Result<Hints<B>, AllocError>
         ensures { IfOk result (λ hints. (room ≤ hints.room) × (hints.height ≡ 0)) }
     {
@@ -42,18 +42,18 @@ impl<B: HintBound> Hints<B> {
         Ok(Hints { own })
     }
 
-    /// With which others steal these hints.
+    /// Returns a handle with which others steal these hints.
     ///
     /// # Errors
     ///
-    /// Only where memory runs out.
+    /// Fails only if memory runs out.
     pub fn stealer(&self) -> Result<HintStealer<B>, AllocError> {
         let of = self.own.stealer()?;
         Ok(HintStealer { of })
     }
 
-    /// Gives a hint, and says whether it was taken. Where it wasn't, which is so only where the hints stand as high as there is
-    /// room, it is lost.
+    /// Adds a hint, and returns whether it was added. The hint is lost otherwise, which happens only if all space is
+    /// occupied.
     pub fn push(&mut self, hint: usize) -> bool
         requires { hint < B.bound }
         ensures room { self.old.room ≤ self.new.room }
@@ -64,7 +64,7 @@ impl<B: HintBound> Hints<B> {
         self.own.push_as::<Below<B>>(hint).is_ok()
     }
 
-    /// The hint that was given last, if there is one.
+    /// Takes the hint that was added last, if there is one.
     pub fn pop(&mut self) -> Option<usize>
         ensures bound { IfSome result (λ hint. hint < B.bound) }
         ensures room { (self.old.room ≤ self.new.room) × (self.new.height ≤ self.old.height) }
@@ -74,8 +74,8 @@ impl<B: HintBound> Hints<B> {
 }
 
 impl<B: HintBound> HintStealer<B> {
-    /// The hint that was given first, if there is one. Where another worker was quicker it tries again. `None` too where the
-    /// worker whose hints they are is about to pop the only one.
+    /// Takes the hint that was added first, if there is one. Tries again if another worker was faster. Also returns
+    /// `None` if the owner is about to pop the only hint.
     pub fn steal<R: Wait>(&self, rt: &R) -> Option<usize>
         ensures { IfSome result (λ hint. hint < B.bound) }
     {

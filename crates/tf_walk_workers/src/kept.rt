@@ -1,4 +1,4 @@
-//! What a cell holds.
+//! The content of a cell.
 
 ghost use Rattle.tf_walk_workers.specs.Ideal.{IsEndOf};
 
@@ -7,7 +7,7 @@ use counted_slot::Fits;
 use std::marker::PhantomData;
 use tf_walk_action::ActionResult;
 
-/// What came of an action, in its cell.
+/// The result of an action, in its cell.
 pub(crate) struct CellResult<N: WalkBrand> {
     pub ended: ActionResult,
     pub of: PhantomData<N>,

@@ -1,9 +1,10 @@
-//! What many workers that carry out a plan do, and what they share beside claims.
+//! The workers that carry out a plan, and what they share besides claims.
 //!
-//! Hints say what a worker may look at next: each worker has hints of its own, which the others steal where they have none. A
-//! hint is a number below a bound, whichever worker gave it. Result cells have what came of each action, published once, and read
-//! by those who work out what comes after it. A worker reads there what came of the actions before its own, asks and calls the
-//! action's provider, records the call, and publishes what came of it; then it looks for the next one, until all have ended.
+//! A hint says what a worker may look at next. Each worker has its own hints, and steals from others if it has none.
+//! A hint is a number below a bound, whichever worker gave it. Result cells hold the result of each action. It is
+//! published once, and workers read it to build later requests. A worker reads the results before its action, builds
+//! the request, calls the provider, records the call, and publishes the result. Then it looks for the next action,
+//! until all have ended.
 #![tactic(auto)]
 
 mod asking;

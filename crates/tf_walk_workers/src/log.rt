@@ -16,7 +16,7 @@ pub struct Log<N: WalkBrand> {
 }
 
 impl<N: WalkBrand> Log<N> {
-    /// The log that a journal is, over the order of the walk's plan.
+    /// Builds the log of a journal, which is over the order of the walk's plan.
     pub fn new(journal: Journal) -> Log<N>
         requires { journal.graph ≡ N.plan.order }
     {
@@ -26,7 +26,7 @@ impl<N: WalkBrand> Log<N> {
         }
     }
 
-    /// The journal, with all that was recorded in it.
+    /// Returns the journal, with all that was recorded in it.
     pub fn into_journal(self) -> Journal
         ensures { result.graph ≡ N.plan.order }
     {
@@ -34,7 +34,7 @@ impl<N: WalkBrand> Log<N> {
         journal
     }
 
-    /// Records a call of an action. Where the journal refuses it, the call comes back.
+    /// Records a call of an action. If the journal refuses it, the call is returned.
     pub(crate) fn record(&mut self, called: Called) -> Result<Recorded, Called>
         requires { called.action < N.plan.order.nodes }
         ensures { MatchResult result (λ recorded. recorded ≡ called) (λ back. back ≡ called) }
@@ -46,10 +46,10 @@ impl<N: WalkBrand> Log<N> {
     }
 }
 
-/// A log may be shared by threads under a lock.
+/// Checks that threads may share a log under a lock.
 pub fn logs_are_shared<N: WalkBrand + Send + Sync>(log: &Mutex<Log<N>>) {
     share(log);
 }
 
-/// Takes what threads may share.
+/// Requires a value that threads may share.
 fn share<T: Sync>(_shared: &T) {}

@@ -1,4 +1,4 @@
-//! What a worker keeps of the requests that it made, for the next one.
+//! What a worker remembers of its requests, for the next one.
 
 ghost use Rattle.std.specs.Prelude.{◌≡◌, ◌<◌, [], All, IfOk, IfSome, IsTrue, MatchOption, Contains};
 ghost use Rattle.tf_walk_action.specs.Words.{names_in, predecessors_of};
@@ -15,9 +15,9 @@ use tf_expand_keys::Resolved;
 use tf_plan_data::Plan;
 use tf_walk_action::NotGood;
 
-/// What a worker saw of the actions before one, and what names stand for by it, as far as that was worked out. It holds for each
-/// action that has the same actions before it, as the instances of a resource mostly have: for all of them each local is evaluated
-/// once, and each resource's objects are collected once.
+/// What a worker read of the actions before one, and the values of names by that, as far as they are evaluated. It is
+/// valid for each action with the same actions before it, as most instances of a resource have. For all of them each
+/// local is evaluated once, and each resource's objects are collected once.
 #[derive(Drop)]
 pub struct Memo<'a, N: WalkBrand> {
     pub(crate) action: usize,
@@ -26,7 +26,7 @@ pub struct Memo<'a, N: WalkBrand> {
 }
 
 impl<N: WalkBrand> Memo<'_, N> {
-    /// Whether the same actions stand before another one too.
+    /// Returns whether another action has the same actions directly before it.
     pub(crate) fn holds_for(&self, plan: &Plan, action: usize) -> bool
         requires own { self.now.action < plan.now.order.nodes }
         requires other { action < plan.now.order.nodes }
@@ -38,8 +38,8 @@ impl<N: WalkBrand> Memo<'_, N> {
 }
 
 impl<'a, N: WalkBrand, R: Wait> WorkerContext<'a, N, R> {
-    /// The evidence that an action directly before one isn't good, where one isn't, once what came of those up to it can be read.
-    /// Where the same actions were seen before, all of them are good. It takes no memory.
+    /// Returns the evidence that an action directly before one isn't good, if one isn't. Waits until the results up
+    /// to that action can be read. If the memo is for the same actions, all of them are good. Takes no memory.
     pub(crate) fn not_good_before(
         &self,
         memo: &Option<Memo<'a, N>>,
@@ -61,12 +61,12 @@ impl<'a, N: WalkBrand, R: Wait> WorkerContext<'a, N, R> {
         first_not_good(self.rt, self.cells, before)
     }
 
-    /// What is known for an action whose predecessors are all good: what was seen for another where that holds for this one too,
-    /// and else what is seen now, by which no name stands for anything yet.
+    /// Returns a memo for an action whose predecessors are all good. That is the given memo if it is valid for this
+    /// action too, and otherwise one with the results read now, and without values of names.
     ///
     /// # Errors
     ///
-    /// Only where memory runs out.
+    /// Fails only if memory runs out.
     pub(crate) fn memo_for(
         &self,
         memo: Option<Memo<'a, N>>,
@@ -88,8 +88,8 @@ impl<'a, N: WalkBrand, R: Wait> WorkerContext<'a, N, R> {
         self.new_memo(emptied(memo), action)
     }
 
-    /// What is seen now for an action whose predecessors are all good. The list, in which nothing stands, is for what names stand
-    /// for.
+    /// Builds a memo from the results read now, for an action whose predecessors are all good. The list is empty, and
+    /// takes the values of names.
     fn new_memo(&self, kept: Vec<Resolved>, action: usize) -> Result<Memo<'a, N>, AllocError>
         requires cells { self.now.cells.now ≡ self.now.plan.now.order.nodes }
         requires within { action < self.now.plan.now.order.nodes }
@@ -109,7 +109,7 @@ impl<'a, N: WalkBrand, R: Wait> WorkerContext<'a, N, R> {
     }
 }
 
-/// The list of a memo, in which nothing stands any more. What it saw is let go.
+/// Drops a memo, and returns its list, emptied.
 fn emptied<N: WalkBrand>(memo: Memo<'_, N>) -> Vec<Resolved>
     ensures { result.items ≡ [] }
 {

@@ -1,25 +1,25 @@
-//! How far a walk is.
+//! The progress of a walk.
 
 ghost use Rattle.std.specs.Prelude.{◌<◌, IfSome};
 
 use std::sync::Wait;
 use std::sync::atomic::{AtomicU64, Ordering};
 
-/// How far a walk is, and on what workers wait that find nothing to do.
+/// The progress of a walk, and the counter on which idle workers wait.
 #[derive(Drop)]
 pub struct WalkProgress {
-    /// How many actions have ended.
+    /// The number of actions that have ended.
     ended: AtomicU64,
-    /// The first action that no worker has looked at since they last began anew.
+    /// The first action that no worker has looked at since the workers last restarted the list.
     next: AtomicU64,
-    /// How often there was more to do than the workers that were awake were known to take. Workers wait on it.
+    /// The number of times that there may have been more to do than awake workers take. Workers wait on it.
     news: AtomicU64,
-    /// How many workers wait, or are about to.
+    /// The number of workers that wait, or are about to.
     waiting: AtomicU64,
 }
 
 impl WalkProgress {
-    /// No action has ended.
+    /// Builds the progress of a walk in which no action has ended.
     pub fn new() -> WalkProgress {
         WalkProgress {
             ended: AtomicU64::new(0),
@@ -29,17 +29,18 @@ impl WalkProgress {
         }
     }
 
-    /// How many actions have ended.
+    /// Returns the number of actions that have ended.
     pub(crate) fn ended(&self) -> u64 {
         self.ended.load(Ordering::SeqCst)
     }
 
-    /// How often there was news.
+    /// Returns the number of times that there was news.
     pub(crate) fn news(&self) -> u64 {
         self.news.load(Ordering::SeqCst)
     }
 
-    /// An action of so many that no other worker is given to look at, unless all begin anew; `None` where all were given.
+    /// Returns the next of `all` actions to look at, which no other worker gets unless the list restarts; `None` if
+    /// all were returned.
     pub(crate) fn next(&self, all: usize) -> Option<usize>
         ensures { IfSome result (λ action. action < all) }
     {
@@ -54,13 +55,13 @@ impl WalkProgress {
         }
     }
 
-    /// Has the workers begin anew to look at the actions.
+    /// Restarts the list, so that workers look at all actions again.
     pub(crate) fn look_anew(&self) {
         self.next.store(0, Ordering::SeqCst);
     }
 
-    /// Tells that one more action has ended, and that so many may be done now that waited for it. The worker that tells it
-    /// takes one of those itself; for each other one a worker is woken.
+    /// Counts one more ended action, after which `free` actions that waited for it may be claimed. The calling worker
+    /// takes one of those itself, and wakes a worker for each of the others.
     pub(crate) fn tell_end(&self, free: u64) {
         self.ended.fetch_add(1, Ordering::SeqCst);
         if free > 1 {
@@ -68,7 +69,7 @@ impl WalkProgress {
         }
     }
 
-    /// Tells that there is news for so many workers, and wakes so many of those that wait.
+    /// Counts news for the given number of workers, and wakes that many of those that wait.
     pub(crate) fn tell_news(&self, workers: u64) {
         self.news.fetch_add(1, Ordering::SeqCst);
         let waiting = self.waiting.load(Ordering::SeqCst);
@@ -84,7 +85,7 @@ impl WalkProgress {
         }
     }
 
-    /// Waits to be woken, unless there was other news than so often. It may return for no reason.
+    /// Waits to be woken, unless the count of news differs from `news`. It may return without a reason.
     pub(crate) fn wait_for_news<R: Wait>(&self, rt: &R, news: u64) {
         self.waiting.fetch_add(1, Ordering::SeqCst);
         self.news.park(rt, (news % 0x1_0000_0000) as u32);

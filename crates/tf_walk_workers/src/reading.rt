@@ -1,4 +1,4 @@
-//! What came of an action, as it is read from its cell.
+//! The result of an action, read from its cell.
 
 ghost use Rattle.std.specs.Option.{option_map_or};
 ghost use Rattle.std.specs.Prelude.{◌≡◌, IfOk, IfSome, IsTrue, MatchOption, is_some, true, false};
@@ -13,7 +13,7 @@ use tf_provider_protocol::Reply;
 use tf_value_data::{Value, copy};
 use tf_walk_action::{ActionResult, NotGood};
 
-/// What came of an action, which stays in its cell while this lives.
+/// A read result of an action, which stays in its cell while this lives.
 pub struct Reading<'a, N: WalkBrand> {
     action: usize,
     claim: Claim<'a, Option<CellResult<N>>>,
@@ -32,7 +32,7 @@ impl<'a, N: WalkBrand> Drop for Reading<'a, N> {
 impl<'a, N: WalkBrand> Reading<'a, N> {
     ghost use Rattle.tf_walk_workers.specs.Reading.{done_in};
 
-    /// What the claim on an action's cell reads, if anything is there.
+    /// Returns what the claim on an action's cell reads, if there is a result.
     pub(crate) fn of(
         action: usize,
         claim: Claim<'a, Option<CellResult<N>>>,
@@ -49,14 +49,14 @@ impl<'a, N: WalkBrand> Reading<'a, N> {
         }
     }
 
-    /// The action.
+    /// Returns the action.
     pub fn action(&self) -> usize
         ensures { result ≡ self.now.action }
     {
         self.action
     }
 
-    /// What came of the action, which is of it and true of it.
+    /// Returns the result, which is of this action and true of it.
     pub fn ended(&self) -> &ActionResult
         ensures own { ended_action result.now ≡ self.now.action }
         ensures same { action_result_of result.now ≡ done_in self.now }
@@ -68,7 +68,7 @@ impl<'a, N: WalkBrand> Reading<'a, N> {
         }
     }
 
-    /// Whether the action is good. Where it is, the same came of it in every ideal.
+    /// Returns whether the action is good. If it is, it has the same result in every ideal.
     pub fn is_good(&self) -> bool
         ensures value { result ≡ is_good (done_in self.now) }
         ensures ideal { IsTrue result → InEachIdeal N.meanings N.plan (λ ideal. done_in self.now ≡ ideal self.now.action) }
@@ -76,7 +76,7 @@ impl<'a, N: WalkBrand> Reading<'a, N> {
         self.ended().is_good()
     }
 
-    /// The evidence that the action isn't good, where it isn't. Where it is, it is good in every ideal.
+    /// Returns the evidence that the action isn't good, if it isn't. If it is good, it is so in every ideal.
     pub fn not_good(&self) -> Option<NotGood>
         ensures { MatchOption result
             (IsGoodInEach N.meanings N.plan self.now.action)
@@ -85,12 +85,12 @@ impl<'a, N: WalkBrand> Reading<'a, N> {
         self.ended().not_good()
     }
 
-    /// The object that a provider answered to the action, copied; null where it answered none. Where the action is good,
-    /// it is the object in every ideal.
+    /// Returns a copy of the object that a provider answered to the action; null if there is none. If the action is
+    /// good, it is the object in every ideal.
     ///
     /// # Errors
     ///
-    /// Only where memory runs out.
+    /// Fails only if memory runs out.
     pub fn object(&self, alloc: Global) -> Result<Value, AllocError>
         ensures value { IfOk result (λ value. tree_of value ≡ object_of (done_in self.now)) }
         ensures ideal { IfOk result (λ value. IsTrue (is_good (done_in self.now))
@@ -100,7 +100,7 @@ impl<'a, N: WalkBrand> Reading<'a, N> {
     }
 }
 
-/// The object that a provider answered, copied; null where there is none.
+/// Returns a copy of the object that a provider answered; null if there is none.
 fn object_of(alloc: Global, ended: &ActionResult) -> Result<Value, AllocError>
     ensures { IfOk result (λ value. tree_of value ≡ object_of (action_result_of ended.now)) }
 {

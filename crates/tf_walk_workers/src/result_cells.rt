@@ -1,4 +1,4 @@
-//! Where what comes of actions is kept.
+//! The store of actions' results.
 
 ghost use Rattle.std.specs.Prelude.{◌≡◌, None, IfOk, replicate};
 
@@ -7,8 +7,8 @@ use crate::walk_brand::WalkBrand;
 use std::alloc::{AllocError, Global};
 use tf_walk_action::{ActionResult, Served, not_ended};
 
-/// The cells of some actions, and the list into which they are taken out. What came of an action may not be let go, so
-/// neither may this.
+/// The cells of some actions, and the list into which results are moved from them. A result can't be dropped, so
+/// neither can this.
 pub struct ResultCells<N: WalkBrand> {
     /// The cells.
     pub cells: Cells<N>,
@@ -17,11 +17,11 @@ pub struct ResultCells<N: WalkBrand> {
 }
 
 impl<N: WalkBrand> ResultCells<N> {
-    /// The cells of the results of so many actions, of which nothing came yet.
+    /// Allocates the given number of empty cells, and the list.
     ///
     /// # Errors
     ///
-    /// Only where memory runs out.
+    /// Fails only if memory runs out.
     pub fn new(alloc: Global, count: usize) -> Result<ResultCells<N>, AllocError>
         ensures cells { IfOk result (λ result_cells. result_cells.cells ≡ count) }
         ensures results { IfOk result (λ result_cells. result_cells.results.items ≡ replicate count None) }
@@ -39,7 +39,7 @@ impl<N: WalkBrand> ResultCells<N> {
         }
     }
 
-    /// Gives up the cells before anything came of an action.
+    /// Discards the cells before any action has a result.
     pub fn discard(self)
         requires { self.results.items ≡ replicate self.cells None }
     {
@@ -55,7 +55,7 @@ impl<N: WalkBrand> ResultCells<N> {
     }
 }
 
-/// Forgets what came of an action.
+/// Discards the result of an action.
 fn forget(ended: ActionResult) {
     match ended {
         ActionResult::Called(Served { call, message: _ }) => {

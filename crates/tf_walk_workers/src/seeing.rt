@@ -1,4 +1,4 @@
-//! What a worker sees of the actions before one.
+//! What a worker reads of the actions before one.
 
 ghost use Rattle.std.specs.Prelude.{◌≡◌, ◌<◌, All, Contains, IfOk, MatchOption};
 ghost use Rattle.tf_walk_action.specs.Words.{names_in, predecessors_of};
@@ -15,8 +15,8 @@ use tf_config_names::Declarations;
 use tf_plan_data::Plan;
 use tf_walk_action::NotGood;
 
-/// The evidence that one of some actions isn't good, of the first that isn't, once what came of those up to it can be read;
-/// `None` where all are good, and then they are in every ideal. It takes no memory.
+/// Returns the evidence that one of some actions isn't good, for the first that isn't; `None` if all are good, and
+/// then they are so in every ideal. Waits until the results up to that action can be read. Takes no memory.
 pub(crate) fn first_not_good<N: WalkBrand, R: Wait>(
     rt: &R,
     cells: &Cells<N>,
@@ -35,7 +35,7 @@ pub(crate) fn first_not_good<N: WalkBrand, R: Wait>(
     None
 }
 
-/// The evidence that an action isn't good, where it isn't, once what came of it can be read.
+/// Returns the evidence that an action isn't good, if it isn't. Waits until its result can be read.
 fn not_good<N: WalkBrand, R: Wait>(rt: &R, cells: &Cells<N>, action: usize) -> Option<NotGood>
     requires { action < cells.now }
     ensures { MatchOption result (IsGoodInEach N.meanings N.plan action) (λ bad. bad ≡ action) }
@@ -49,11 +49,11 @@ fn not_good<N: WalkBrand, R: Wait>(rt: &R, cells: &Cells<N>, action: usize) -> O
     unreachable!()
 }
 
-/// What came of the actions directly before one, once all of them can be read and are good.
+/// Returns the results of the actions directly before one. Waits until all of them can be read and are good.
 ///
 /// # Errors
 ///
-/// Only where memory runs out.
+/// Fails only if memory runs out.
 pub(crate) fn good_before<'a, N: WalkBrand, R: Wait>(
     rt: &R,
     alloc: Global,

@@ -16,21 +16,21 @@ use tf_config_names::Declarations;
 use tf_plan_data::Plan;
 use tf_walk_action::Stop;
 
-/// What one worker has of its own.
+/// What each worker has for itself.
 #[derive(Drop)]
 pub struct WorkerState<N: WalkBrand> {
     /// Its seat at the claims.
     pub seat: Seat,
     /// Its hints.
     pub hinting: Hinting<N>,
-    /// The place of its own stealer in the list of all.
+    /// The index of its own stealer in the list of all.
     pub place: usize,
 }
 
-/// What all workers of a walk share, beside the providers and what they read.
+/// What all workers of a walk share, besides the providers and what they read.
 #[derive(Drop)]
 pub struct SharedWalk<'a, N: WalkBrand> {
-    /// Where memory comes from.
+    /// The allocator.
     pub alloc: Global,
     /// The flag that stops the walk.
     pub stop: &'a Stop,
@@ -38,14 +38,14 @@ pub struct SharedWalk<'a, N: WalkBrand> {
     pub claims: &'a Claims,
     /// The journal, under its lock.
     pub journal: &'a Mutex<Log<N>>,
-    /// With what each worker's hints are stolen, in the order of the workers.
+    /// The stealers of all workers' hints, in the order of the workers.
     pub stealers: &'a [HintStealer<PlanBound<N>>],
-    /// How far the walk is.
+    /// The progress of the walk.
     pub progress: &'a WalkProgress,
 }
 
-/// What workers read: the plan, the names of its configuration, and the cells. They reach it through this trait, so that it
-/// may be shared is shown once, where the threads start.
+/// What workers read: the plan, the names of its configuration, and the cells. They get it through this trait, so
+/// only the start of the threads has to show that it may be shared.
 pub trait WalkInput<N: WalkBrand> {
     ghost use Rattle.tf_config_data.specs.Names.{NameView};
     ghost use Rattle.tf_config_names.specs.Table.{names_in};
@@ -57,18 +57,18 @@ pub trait WalkInput<N: WalkBrand> {
     /// The names of its configuration.
     ghost named: { Self → List NameView };
 
-    /// How many cells there are.
+    /// The number of cells.
     ghost count: { Self → ℕ };
 
-    /// The plan.
+    /// Returns the plan.
     fn plan(&self) -> &Plan
         ensures { result.now ≡ planned self.now };
 
-    /// The names of its configuration.
+    /// Returns the names of its configuration.
     fn names(&self) -> &Declarations<'_>
         ensures { names_in result.now ≡ named self.now };
 
-    /// The cells.
+    /// Returns the cells.
     fn cells(&self) -> &Cells<N>
         ensures { result.now ≡ count self.now };
 }

@@ -14,8 +14,8 @@ use std::thread::Threads;
 use tf_claim::{Claims, Seat};
 use tf_provider::Provider;
 
-/// Has a worker work with each state: this thread with the first, and one more thread with each of the others. What they have seen
-/// and done is put together in one seat.
+/// Runs a worker for each state: the first on this thread, and each of the others on one more thread. Returns one
+/// seat, which joins all that they have seen and done.
 pub fn share_out<N: WalkBrand + Send + Sync, B: WalkInput<N> + Sync, R: Threads + Wait + Sync>(
     rt: &R,
     walk: &SharedWalk<'_, N>,
@@ -42,9 +42,8 @@ pub fn share_out<N: WalkBrand + Send + Sync, B: WalkInput<N> + Sync, R: Threads 
     )
 }
 
-/// Has a worker work with each state: this thread with the first, and one more thread with the others, which does the same with
-/// them. A worker for which there is no thread is done without, and costs no other one its own. It takes no memory but what a
-/// thread takes.
+/// Runs a worker for each state: the first on this thread, and the others on one more thread, which does the same
+/// with them. If a thread can't be started, only its own worker is missing. Takes no memory but for threads.
 #[cycle(threads)]
 fn work_at_all<D: Send + Drop, F: Fn(D) -> Seat + Sync, R: Threads + Sync>(
     rt: &R,
@@ -80,7 +79,7 @@ fn work_at_all<D: Send + Drop, F: Fn(D) -> Seat + Sync, R: Threads + Sync>(
     seat
 }
 
-/// Has this thread's worker work with its state.
+/// Runs a worker with its state on this thread.
 fn work_at<D, F: Fn(D) -> Seat>(claims: &Claims, work: &F, worker_state: D) -> Seat
     requires leaves { LeavesSeats F.Fn (λ seat. seat.table) work.now claims.now.table }
     requires worker_state { F.pre work.now worker_state }

@@ -1,4 +1,4 @@
-//! The end of one action, by a worker.
+//! A worker's steps to end one action.
 
 ghost use Rattle.std.specs.Prelude.{◌≡◌, ◌<◌, IfSome, map};
 ghost use Rattle.tf_walk_action.specs.Words.{action_result_of, ended_action, HasCause, names_in};
@@ -20,13 +20,13 @@ use tf_plan_data::Plan;
 use tf_provider::Provider;
 use tf_walk_action::{ActionResult, Stop};
 
-/// What a worker works with, beside the providers: the plan of a walk, the names of its configuration, the cells of the plan's
-/// actions, the journal that workers share, and whether the walk is to stop.
+/// What a worker uses, besides the providers: the plan of a walk, the names of its configuration, the cells of the
+/// plan's actions, the journal that workers share, and the flag that stops the walk.
 #[derive(Drop)]
 pub struct WorkerContext<'a, N: WalkBrand, R> {
-    /// What it waits by.
+    /// The runtime by which it waits.
     pub rt: &'a R,
-    /// What requests are made in.
+    /// The allocator for requests.
     pub alloc: Global,
     /// The plan.
     pub plan: &'a Plan,
@@ -36,16 +36,16 @@ pub struct WorkerContext<'a, N: WalkBrand, R> {
     pub cells: &'a Cells<N>,
     /// The journal.
     pub journal: &'a Mutex<Log<N>>,
-    /// Whether the walk is to stop.
+    /// The flag that stops the walk.
     pub stop: &'a Stop,
 }
 
 impl<'a, N: WalkBrand, R: Wait> WorkerContext<'a, N, R> {
-    /// Ends a claimed action, and publishes what came of it: it is skipped where an action directly before it isn't good;
-    /// left where the walk is to stop; excused where memory for its request is refused; it has a fault where its request has
-    /// one; and else its provider is called, outside the lock, and the call is recorded under it. All actions directly
-    /// before it have ended, and nothing was published for it: where that doesn't hold yet, it waits. `memo` is what the worker
-    /// keeps for its next action, none at first.
+    /// Ends a claimed action, and publishes its result. The action is skipped if one directly before it isn't good,
+    /// left if the walk is stopped, excused if memory for its request runs out, and faulted if its request has a
+    /// fault. Otherwise its provider is called, without the lock, and the call is recorded under the lock. All
+    /// actions directly before it have ended, and no result is published for it; until both hold, this waits. `memo`
+    /// is what the worker remembers for its next action, `None` at first.
     pub fn end_action(
         &self,
         providers: &[Box<dyn Provider + Sync>],
@@ -64,7 +64,7 @@ impl<'a, N: WalkBrand, R: Wait> WorkerContext<'a, N, R> {
         finished
     }
 
-    /// What comes of a claimed action, once all actions directly before it can be read.
+    /// Returns the result of a claimed action. Waits until the results of all actions directly before it can be read.
     fn come_to_end(
         &self,
         providers: &[Box<dyn Provider + Sync>],
@@ -95,7 +95,7 @@ impl<'a, N: WalkBrand, R: Wait> WorkerContext<'a, N, R> {
     }
 }
 
-/// Publishes what came of an action. Where something was published for it already, it waits.
+/// Publishes the result of an action. Tries again as long as a result is already published for it.
 fn publish<N: WalkBrand, R: Wait>(rt: &R, cells: &Cells<N>, action: usize, ended: ActionResult)
     requires action { action < cells.now }
     requires own { IsEndOf N.meanings N.plan action ended }

@@ -1,4 +1,4 @@
-//! Which walk some cells are of.
+//! The walk that cells belong to.
 
 ghost use Rattle.std.specs.Prelude.{List, []};
 ghost use Rattle.tf_plan_data.specs.Plan.{PlanView};
@@ -7,15 +7,15 @@ ghost use Rattle.tf_walk_workers.specs.NoPlan.{no_plan};
 
 use std::marker::Brand;
 
-/// Which walk some cells are of, by plain data: the providers' meanings, and the plan. It is for contracts alone: each
-/// call that starts a walk picks it.
+/// The walk that cells belong to, as plain data: the providers' meanings, and the plan. It is for contracts alone:
+/// each call that starts a walk chooses it.
 pub trait WalkBrand {
     ghost meanings: { List Meaning };
 
     ghost plan: { PlanView };
 }
 
-/// Where no call picks another, there is no provider and nothing to do.
+/// The default, if no call chooses another: no provider, and nothing to do.
 impl WalkBrand for Brand {
     ghost meanings = { [] };
 

@@ -14,7 +14,7 @@ use std::sync::Wait;
 use tf_claim::Seat;
 use tf_provider::Provider;
 
-/// Ends actions, one after another, until all actions have ended. Where there is nothing to do it waits for news.
+/// Ends actions, one after another, until all have ended. Waits for news if there is nothing to do.
 pub(crate) fn work<N: WalkBrand, B: WalkInput<N>, R: Wait>(
     rt: &R,
     walk: &SharedWalk<'_, N>,
@@ -36,12 +36,12 @@ pub(crate) fn work<N: WalkBrand, B: WalkInput<N>, R: Wait>(
         memo: None,
     };
     let all = walk.claims.graph().nodes() as u64;
-    // What may be claimed is found, though no contract says so. No worker waits before every action was given to one to look
-    // at, which claims it if nothing stands before it. At any other action a worker has a hint that let go of the last edge into
-    // it, or, where the hint is lost, all actions are given anew; and that worker looks at its own hints, and on, before it
-    // waits. So others are woken only to be quicker, but for the end, when all are. None waits that hasn't looked since the
-    // last news: the news is read before it looks, and told after there is something to find. `tools/model` goes through all
-    // interleavings of this loop, for small orders.
+    // Liveness, which no contract states. No worker waits before each action was given to one to look at, which
+    // claims it if no action is before it. For any other action, the worker that released the last edge into it has a
+    // hint; if the hint is lost, all actions are given to workers again. That worker looks at its own hints, and at
+    // the list, before it waits. So others are woken only for speed, except at the end, when all are. No worker waits
+    // that hasn't looked since the last news: it reads the news before it looks, and news is counted after there is
+    // something to find. `tools/model` checks all interleavings of this loop, for small orders.
     for _ in rt.forever() {
         let news = walk.progress.news();
         if walk.progress.ended() >= all {
@@ -64,14 +64,14 @@ pub(crate) fn work<N: WalkBrand, B: WalkInput<N>, R: Wait>(
     seat
 }
 
-/// What one worker has of its own: its state, and what it saw for the last action that it asked for.
+/// What each worker has for itself: its state, and its memo of the last request.
 #[derive(Drop)]
 struct Post<'a, N: WalkBrand> {
     worker_state: WorkerState<N>,
     memo: Option<Memo<'a, N>>,
 }
 
-/// What a worker works with, beside the providers and its post.
+/// What a worker uses, besides the providers and its `Post`.
 #[derive(Drop)]
 struct Worker<'a, 'w, N: WalkBrand, B, R> {
     rt: &'a R,
@@ -80,8 +80,8 @@ struct Worker<'a, 'w, N: WalkBrand, B, R> {
 }
 
 impl<'a, N: WalkBrand, B: WalkInput<N>, R: Wait> Worker<'a, '_, N, B, R> {
-    /// Ends an action that may be claimed, if there is one: by a hint of its own, or else the first in the list that no
-    /// worker has looked at, or else by a hint of another worker.
+    /// Ends an action that may be claimed, and returns whether there was one. Takes a hint of its own, or else the
+    /// first action in the list that no worker has looked at, or else a hint of another worker.
     fn go_on(&self, providers: &[Box<dyn Provider + Sync>], post: &mut Post<'a, N>) -> bool
         requires walk { IsOneWalk N.plan N.meanings (B.planned self.now.walk_input.now) (B.named self.now.walk_input.now) (B.count self.now.walk_input.now) self.now.walk.now.claims.now.graph (map meaning providers.now) }
         requires post { IsPost N.meanings N.plan (B.planned self.now.walk_input.now) (B.named self.now.walk_input.now) self.now.walk.now.claims.now post.old }
@@ -92,7 +92,7 @@ impl<'a, N: WalkBrand, B: WalkInput<N>, R: Wait> Worker<'a, '_, N, B, R> {
             || self.steal_hint(providers, post)
     }
 
-    /// Ends an action by a hint of the worker's own. Hints at actions that can't be claimed are forgotten.
+    /// Ends an action by one of the worker's own hints. Drops hints at actions that can't be claimed.
     fn take_own_hint(&self, providers: &[Box<dyn Provider + Sync>], post: &mut Post<'a, N>) -> bool
         requires walk { IsOneWalk N.plan N.meanings (B.planned self.now.walk_input.now) (B.named self.now.walk_input.now) (B.count self.now.walk_input.now) self.now.walk.now.claims.now.graph (map meaning providers.now) }
         requires post { IsPost N.meanings N.plan (B.planned self.now.walk_input.now) (B.named self.now.walk_input.now) self.now.walk.now.claims.now post.old }
@@ -109,7 +109,7 @@ impl<'a, N: WalkBrand, B: WalkInput<N>, R: Wait> Worker<'a, '_, N, B, R> {
         unreachable!()
     }
 
-    /// Ends an action by a hint that it steals, of the worker behind it first.
+    /// Ends an action by a stolen hint, beginning with the next worker.
     fn steal_hint(&self, providers: &[Box<dyn Provider + Sync>], post: &mut Post<'a, N>) -> bool
         requires walk { IsOneWalk N.plan N.meanings (B.planned self.now.walk_input.now) (B.named self.now.walk_input.now) (B.count self.now.walk_input.now) self.now.walk.now.claims.now.graph (map meaning providers.now) }
         requires post { IsPost N.meanings N.plan (B.planned self.now.walk_input.now) (B.named self.now.walk_input.now) self.now.walk.now.claims.now post.old }
@@ -120,7 +120,7 @@ impl<'a, N: WalkBrand, B: WalkInput<N>, R: Wait> Worker<'a, '_, N, B, R> {
         self.steal_from_any(providers, post, behind) || self.steal_from_any(providers, post, before)
     }
 
-    /// Ends an action by a hint that it steals of some workers, of the first that has one.
+    /// Ends an action by a hint stolen from the first of some workers that has one.
     fn steal_from_any(
         &self,
         providers: &[Box<dyn Provider + Sync>],
@@ -139,8 +139,8 @@ impl<'a, N: WalkBrand, B: WalkInput<N>, R: Wait> Worker<'a, '_, N, B, R> {
         false
     }
 
-    /// Ends an action by a hint that it steals of one worker. Hints at actions that can't be claimed are forgotten, until that
-    /// worker has none: behind one of them may lie the only hint at an action that can be claimed.
+    /// Ends an action by a hint stolen from one worker. Drops hints at actions that can't be claimed, until that
+    /// worker has none: after one of them may be the only hint at an action that can be claimed.
     fn steal_from(
         &self,
         providers: &[Box<dyn Provider + Sync>],
@@ -162,9 +162,9 @@ impl<'a, N: WalkBrand, B: WalkInput<N>, R: Wait> Worker<'a, '_, N, B, R> {
         unreachable!()
     }
 
-    /// Ends an action that can be claimed, of those that no worker has looked at. None is looked at twice, unless a hint is
-    /// lost. So a worker that looks at one whose turn hasn't come passes it by: whoever ends the last action before it gives
-    /// a hint at it.
+    /// Ends an action that can be claimed, of those that no worker has looked at. No action is looked at twice,
+    /// unless a hint is lost. So a worker passes over an action that can't be claimed yet: the worker that ends the
+    /// last action before it gives a hint at it.
     fn look_on(&self, providers: &[Box<dyn Provider + Sync>], post: &mut Post<'a, N>) -> bool
         requires walk { IsOneWalk N.plan N.meanings (B.planned self.now.walk_input.now) (B.named self.now.walk_input.now) (B.count self.now.walk_input.now) self.now.walk.now.claims.now.graph (map meaning providers.now) }
         requires post { IsPost N.meanings N.plan (B.planned self.now.walk_input.now) (B.named self.now.walk_input.now) self.now.walk.now.claims.now post.old }
@@ -182,9 +182,9 @@ impl<'a, N: WalkBrand, B: WalkInput<N>, R: Wait> Worker<'a, '_, N, B, R> {
         unreachable!()
     }
 
-    /// Claims an action, takes it to its end, lets go of what waits for it, and gives hints at what is free then; false where
-    /// it can't be claimed. Where a hint is lost, the workers look at all actions anew. Others are woken for what is more than
-    /// one worker does.
+    /// Claims an action, ends it, releases the edges out of it, and gives hints at the actions that this frees.
+    /// Returns false if the action can't be claimed. If a hint is lost, the workers look at all actions again. Others
+    /// are woken if there is more than one worker can take.
     fn end_if_free(
         &self,
         providers: &[Box<dyn Provider + Sync>],

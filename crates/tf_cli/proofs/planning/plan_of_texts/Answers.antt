@@ -7,5 +7,5 @@ use Rattle.tf_cli.proofs.planning.plan_of_texts.Goals as goal
 
 pub returns-in-Ok-clause-planned : goal.returns-in-Ok-clause-planned
 returns-in-Ok-clause-planned g c =
-    plan_of_texts (map (λ b. (goal.Provider-dyn g (b.vtable, b.value)).meaning b.value) c.args.providers.now) _ c.args.texts.now.lineage.now (config_of c.in-Ok.inputs.config) (entries_view c.in-Ok.inputs.values.entries) (state_of c.in-Ok.inputs.prior)
-    c.plan.result c.in-Ok.ensures.stand c.plan.ensures.planned
+    plan_of_texts (map (λ b. (goal.Provider-dyn g (b.vtable, b.value)).meaning b.value) c.args.providers.now) _ c.args.texts.now.lineage.now (config_of c.in-Ok.inputs.configuration.config) (entries_view c.in-Ok.inputs.values.entries) (state_of c.in-Ok.inputs.prior)
+    c.planned_from.result c.in-Ok.ensures.stand c.planned_from.ensures.planned
