@@ -2,5 +2,5 @@ pub mod Carried
 pub mod Judged
 pub mod Judging
 pub mod Reported
-pub mod Settling
 pub mod Taking
+pub mod Wholeness

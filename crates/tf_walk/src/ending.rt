@@ -1,10 +1,13 @@
-//! The end of a walk: the report on all actions, compared with the journal.
+//! The end of a walk: the report on all actions, with the journal of its calls.
 
-ghost use Rattle.std.specs.Prelude.{◌≡◌, List, None, map, replicate};
+ghost use Rattle.std.specs.Prelude.{◌≡◌, ◌+◌, List, [], None, map, replicate, true};
+ghost use Rattle.std.specs.List.{AllByRecursion};
+ghost use Rattle.tf_walk_action.specs.Journal.{IsOfAction};
+ghost use Rattle.tf_walk_workers.specs.Calls.{HasParts, records_of};
 ghost use Rattle.tf_walk_action.specs.Words.{FitsTogether, names_in, plan_names, plan_of};
 ghost use Rattle.tf_walk_report.specs.Reserved.{AreReserved};
 ghost use Rattle.tf_walk_report.specs.Report.{report_of};
-ghost use Rattle.tf_walk.specs.Run.{IsRun};
+ghost use Rattle.tf_walk.specs.Run.{IsRun, is_whole};
 
 use crate::fitting::demand_fit;
 use std::alloc::Global;
@@ -13,12 +16,13 @@ use tf_config_names::Declarations;
 use tf_expand_keys::{Module, ModuleParts};
 use tf_plan_data::Plan;
 use tf_provider::{Journal, Provider};
+use tf_tally::{Part, Tally};
 use tf_walk_action::ActionResult;
-use tf_walk_report::{ReportBuffers, Walked, report_of, settle};
-use tf_walk_workers::{Cells, WalkBrand};
+use tf_walk_report::{ReportBuffers, Walked, report_of};
+use tf_walk_workers::{CallRecord, Cells, WalkBrand};
 
-/// Returns the report on a plan whose actions have all ended, from their cells: whole exactly if the journal is that of the
-/// calls, else torn. It can't return out of memory.
+/// Returns the report on a plan whose actions have all ended, from their cells, with the journal of their calls. The part is
+/// all of the walk's tally but the cells' parts, and keeps what the journal has. It can't return out of memory.
 pub(crate) fn report_walk<N: WalkBrand, R: Wait>(
     rt: &R,
     alloc: Global,
@@ -29,7 +33,13 @@ pub(crate) fn report_walk<N: WalkBrand, R: Wait>(
     cells: Cells<N>,
     mut results: Vec<Option<ActionResult>>,
     journal: Journal,
+    tally: &Tally<CallRecord>,
+    mut part: Part<CallRecord>,
 ) -> Walked
+    requires tally { tally.now ≡ N.table }
+    requires part { HasParts N.table part.holding.parts (records_of journal.entries) [] part }
+    requires whole { part.holding.whole ≡ part.holding.parts + plan.now.order.nodes }
+    requires ops { AllByRecursion (IsOfAction N.plan.actions) journal.entries }
     requires fits { FitsTogether plan.now }
     requires meanings { N.meanings ≡ map meaning providers.now }
     requires plan { N.plan ≡ plan_of plan.now }
@@ -39,9 +49,12 @@ pub(crate) fn report_walk<N: WalkBrand, R: Wait>(
     requires results { results.items ≡ replicate plan.now.order.nodes None }
     requires journal { journal.graph ≡ plan.now.order }
     ensures run { IsRun (map meaning providers.now) (plan_of plan.now) result }
+    ensures whole { is_whole result ≡ true }
     ensures journal { (report_of result).journal.graph ≡ plan.now.order }
 {
-    cells.take_out(&mut results);
+    cells.take_out(tally, &mut part, &mut results);
+    tally.audit(&mut part);
+    let _entries = journal.entries();
     demand_fit(rt, plan.order.graph(), &results);
     let declared = Module {
         parts: ModuleParts {
@@ -50,6 +63,5 @@ pub(crate) fn report_walk<N: WalkBrand, R: Wait>(
             dependence: &plan.dependence,
         },
     };
-    let report = report_of(alloc, plan, &declared, providers, buffers, results, journal);
-    settle(plan, report)
+    Walked::Whole(report_of(alloc, plan, &declared, providers, buffers, results, journal))
 }

@@ -1,3 +1,7 @@
+pub mod Gathering
+pub mod Parts
+pub mod Recording
+pub mod Wholeness
 pub mod Rules
 pub mod CallsSeen
 pub mod Outcomes

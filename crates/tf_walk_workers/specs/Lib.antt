@@ -1,3 +1,4 @@
+pub mod Calls
 pub mod Hoard
 pub mod Ideal
 pub mod Laws

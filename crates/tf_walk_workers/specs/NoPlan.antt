@@ -1,5 +1,6 @@
 -- A plan without actions.
 use Rattle.std.specs.Prelude.{[], false}
+use Rattle.atomic_table.specs.Seated.{TableId}
 use Rattle.tf_expand_keys.specs.InstanceKeys as shape
 use Rattle.tf_plan_data.specs.Plan.{PlanView}
 use Rattle.tf_state_data.specs.State.{empty_state}
@@ -18,3 +19,7 @@ no_plan =
       actions = [];
       order = record { nodes = 0; edges = [] };
     }
+
+-- the table of no tally
+abbrev pub no_table : TableId
+no_table = record { words = 0; slots = 0; views_name = 0; atom = 0; block = 0; offset = 0; slot_names = [] }

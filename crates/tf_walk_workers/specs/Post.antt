@@ -1,14 +1,18 @@
 -- What each worker has for itself.
-use Rattle.std.specs.Prelude.{◌≡◌, List, IfSome}
+use Rattle.std.specs.Prelude.{◌≡◌, List, [], IfSome, IsSomeAnd}
+use Rattle.atomic_table.specs.Seated.{TableId}
 use Rattle.tf_claim.specs.Claims.{Shared}
 use Rattle.tf_config_data.specs.Names.{NameView}
 use Rattle.tf_plan_data.specs.Plan.{PlanView}
 use Rattle.tf_plan_data.specs.declared.plan.Plan.{Plan}
 use Rattle.tf_provider_protocol.specs.Meaning.{Meaning}
+use Rattle.tf_walk_workers.specs.Calls.{HasParts}
 use Rattle.tf_walk_workers.specs.declared.worker.Post.{Post}
 use Rattle.tf_walk_workers.specs.Memo.{IsTrueMemo}
 
--- A worker's seat is at the claims of its walk, and its memo of the last request is true.
-pub record IsPost {N : Type 0} (ms : List Meaning) (walk : PlanView) (plan : Plan) (names : List NameView) (claims : Shared) (post : Post N) : Type 0 where
-  pub seat : post.worker_state.seat.table ≡ claims.table
+-- A worker's seat is at the claims of its walk, its memo of the last request is true, and it has one part of the walk's tally,
+-- which keeps and tells no call.
+pub record IsPost {N : Type 0} (ms : List Meaning) (walk : PlanView) (table : TableId) (plan : Plan) (names : List NameView) (claims : Shared) (post : Post N) : Type 0 where
+  pub seat : post.seat.table ≡ claims.table
   pub memo : IfSome post.memo (IsTrueMemo ms walk plan names)
+  pub part : IsSomeAnd post.part (HasParts table 1 [] [])

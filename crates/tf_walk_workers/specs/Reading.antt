@@ -1,14 +1,14 @@
 -- The result that is read from a cell.
-use Rattle.std.specs.Prelude.{ℕ, Option, Some}
-use Rattle.tf_walk_action.specs.ResultViews.{action_result_of}
+use Rattle.std.specs.Prelude.{ℕ, Option, Some, None}
+use Rattle.tf_walk_action.specs.ResultViews.{result_or_skipped}
 use Rattle.tf_walk_action.specs.Outcome.{ActionResultView, skipped}
 use Rattle.tf_walk_workers.specs.declared.kept.CellResult.{CellResult}
 use Rattle.tf_walk_workers.specs.declared.reading.Reading.{Reading}
 
 -- the result in an action's cell; an empty cell counts as skipped
-abbrev pub done_held : {N : Type 0} → Option (Option (CellResult N)) → ActionResultView
-done_held (Some (Some kept)) = action_result_of kept.ended
-done_held _ = skipped
+abbrev pub done_held : {N : Type 0} → Option (CellResult N) → ActionResultView
+done_held (Some kept) = result_or_skipped kept.ended
+done_held None = skipped
 
 -- the result of a reading
 abbrev pub done_in : {N : Type 0} → Reading N → ActionResultView

@@ -1,6 +1,7 @@
 //! A worker's request for an action.
 
-ghost use Rattle.std.specs.Prelude.{◌≡◌, ◌<◌, All, map, IfOk, IfSome, IsSomeAnd, IsTrue};
+ghost use Rattle.std.specs.Prelude.{◌≡◌, ◌<◌, All, map, IfOk, IfSome, IsSomeAnd, IsTrue, Some};
+ghost use Rattle.tf_walk_action.specs.Journal.{op_at};
 ghost use Rattle.tf_walk_action.specs.Words.{asked, asks_fully, comes_of, ActionResultView, IsRun, names_in, predecessors_of, schema_in};
 ghost use Rattle.tf_walk_action.specs.AskedBy.{asked_by};
 ghost use Rattle.tf_walk_workers.specs.Ideal.{IsGoodInEach, IsTrueTo};
@@ -35,6 +36,7 @@ impl<'a, N: WalkBrand, R: Wait> WorkerContext<'a, N, R> {
         ensures asked { IfOk result (λ made. (d : ActionResultView) → IsRun (comes_of (map meaning providers.now) (asked_by made)) d → IsTrueTo N.meanings N.plan action d) }
         ensures served { IfOk result (λ made. IfOk made (λ asking.
             IsSomeAnd (schema_in (asked asking.request).type_name (map meaning providers.now)) (λ s. IsTrue (asks_fully (asked asking.request) s)))) }
+        ensures op { IfOk result (λ made. IfOk made (λ asking. op_at N.plan.actions action ≡ Some (asked asking.request).op)) }
         ensures memo { IfSome memo.new (IsTrueMemo N.meanings N.plan self.now.plan.now (names_in self.now.names.now)) }
     {
         let mut own = self.memo_for(memo.take(), action)?;
@@ -57,6 +59,7 @@ impl<'a, N: WalkBrand, R: Wait> WorkerContext<'a, N, R> {
         ensures asked { IfOk result (λ made. (d : ActionResultView) → IsRun (comes_of (map meaning providers.now) (asked_by made)) d → IsTrueTo N.meanings N.plan action d) }
         ensures served { IfOk result (λ made. IfOk made (λ asking.
             IsSomeAnd (schema_in (asked asking.request).type_name (map meaning providers.now)) (λ s. IsTrue (asks_fully (asked asking.request) s)))) }
+        ensures op { IfOk result (λ made. IfOk made (λ asking. op_at N.plan.actions action ≡ Some (asked asking.request).op)) }
         ensures memo { IsTrueMemo N.meanings N.plan self.now.plan.now (names_in self.now.names.now) memo.new }
     {
         let actions = self.plan.actions.as_slice();

@@ -1,34 +1,67 @@
 //! Calls of providers, and their records.
 
-ghost use Rattle.std.specs.Prelude.{◌≡◌, ◌<◌, map, IsSomeAnd, IsTrue};
+ghost use Rattle.std.specs.Prelude.{◌≡◌, ◌<◌, ◌∷◌, [], map, IsSomeAnd, IsTrue, Some};
+ghost use Rattle.tf_provider.specs.Entries.{entry_of};
+ghost use Rattle.tf_walk_action.specs.Journal.{op_at};
 ghost use Rattle.tf_walk_action.specs.Words.{asked, asks_fully, call_of, call_of_provider, action_result_of, ended_action, HasCause, IsRun, IsServed, schema_in};
+ghost use Rattle.tf_walk_workers.specs.Calls.{HasParts, record_of, told_of};
 
-use crate::log::Log;
+use crate::call_record::CallRecord;
+use crate::log::{Log, Logged, Unlogged};
 use crate::walk_brand::WalkBrand;
 use std::sync::{Mutex, Wait};
 use std::thread;
 use tf_claim::{Finished, Permit};
-use tf_provider::{Called, Provider, Recorded, call, first_provider};
+use tf_provider::{Called, Provider, call, first_provider};
+use tf_tally::{Part, Tally};
 use tf_walk_action::{ActionResult, PreparedCall, ended_by};
 
-/// Calls the first provider that has the type of a request, and records the call.
+/// The result of an action, the right to report the action as done, and a part of the walk's tally.
+pub(crate) struct ActionEnd {
+    pub ended: ActionResult,
+    pub finished: Finished,
+    pub part: Part<CallRecord>,
+}
+
+/// Returns the result of an action together with a part.
+pub(crate) fn with_part(end: (ActionResult, Finished), part: Part<CallRecord>) -> ActionEnd
+    ensures ended { result.ended ≡ end.0 }
+    ensures finished { result.finished ≡ end.1 }
+    ensures part { result.part ≡ part }
+{
+    let (ended, finished) = end;
+    ActionEnd {
+        ended,
+        finished,
+        part,
+    }
+}
+
+/// Calls the first provider that has the type of a request, and records the call. Returns a part that tells the call, in
+/// place of the given one.
 pub(crate) fn serve<N: WalkBrand, R: Wait>(
     rt: &R,
     providers: &[Box<dyn Provider + Sync>],
     log: &Mutex<Log<N>>,
+    tally: &Tally<CallRecord>,
     permit: Permit,
     asking: PreparedCall,
-) -> (ActionResult, Finished)
+    part: Part<CallRecord>,
+) -> ActionEnd
     requires served { IsSomeAnd (schema_in (asked asking.request).type_name (map meaning providers.now)) (λ s. IsTrue (asks_fully (asked asking.request) s)) }
+    requires tally { tally.now ≡ N.table }
     requires within { permit < N.plan.order.nodes }
-    ensures finished { result.1 ≡ permit }
-    ensures action { ended_action result.0 ≡ permit }
-    ensures cause { HasCause N.plan.order result.0 }
-    ensures ended { IsRun (call_of (map meaning providers.now) (asked asking.request)) (action_result_of result.0) }
+    requires op { op_at N.plan.actions permit ≡ Some (asked asking.request).op }
+    requires part { HasParts N.table 1 [] [] part }
+    ensures finished { result.finished ≡ permit }
+    ensures action { ended_action result.ended ≡ permit }
+    ensures cause { HasCause N.plan.order result.ended }
+    ensures ended { IsRun (call_of (map meaning providers.now) (asked asking.request)) (action_result_of result.ended) }
+    ensures part { HasParts N.table 1 [] (told_of result.ended) result.part }
 {
     match first_provider(providers, asking.request.type_name.as_str()) {
         None => unreachable!(),
-        Some(provider) => make_call(rt, provider, log, permit, asking),
+        Some(provider) => make_call(rt, provider, log, tally, permit, asking, part),
     }
 }
 
@@ -37,31 +70,48 @@ fn make_call<N: WalkBrand, R: Wait>(
     rt: &R,
     provider: &Box<dyn Provider + Sync>,
     log: &Mutex<Log<N>>,
+    tally: &Tally<CallRecord>,
     permit: Permit,
     asking: PreparedCall,
-) -> (ActionResult, Finished)
+    part: Part<CallRecord>,
+) -> ActionEnd
     requires served { IsServed (meaning provider.now) (asked asking.request) }
+    requires tally { tally.now ≡ N.table }
     requires within { permit < N.plan.order.nodes }
-    ensures finished { result.1 ≡ permit }
-    ensures action { ended_action result.0 ≡ permit }
-    ensures cause { HasCause N.plan.order result.0 }
-    ensures ended { IsRun (call_of_provider (asked asking.request) (meaning provider.now)) (action_result_of result.0) }
+    requires op { op_at N.plan.actions permit ≡ Some (asked asking.request).op }
+    requires part { HasParts N.table 1 [] [] part }
+    ensures finished { result.finished ≡ permit }
+    ensures action { ended_action result.ended ≡ permit }
+    ensures cause { HasCause N.plan.order result.ended }
+    ensures ended { IsRun (call_of_provider (asked asking.request) (meaning provider.now)) (action_result_of result.ended) }
+    ensures part { HasParts N.table 1 [] (told_of result.ended) result.part }
 {
     let called = call(provider, permit, asking.request);
-    let recorded = record(rt, log, called);
-    ended_by(recorded, asking.message)
+    let Logged { recorded, part } = record(rt, log, tally, called, part);
+    with_part(ended_by(recorded, asking.message), part)
 }
 
-/// Records a call. If the journal refuses it, this tries again; the journal accepts it once all actions directly
-/// before its own are recorded.
-fn record<N: WalkBrand, R: Wait>(rt: &R, log: &Mutex<Log<N>>, called: Called) -> Recorded
-    requires { called.action < N.plan.order.nodes }
-    ensures { result ≡ called }
+/// Records a call, and returns a part that tells it, in place of the given one. If the journal refuses the call, this tries
+/// again; the journal accepts it once all actions directly before its own are recorded.
+fn record<N: WalkBrand, R: Wait>(
+    rt: &R,
+    log: &Mutex<Log<N>>,
+    tally: &Tally<CallRecord>,
+    called: Called,
+    part: Part<CallRecord>,
+) -> Logged
+    requires tally { tally.now ≡ N.table }
+    requires within { called.action < N.plan.order.nodes }
+    requires op { op_at N.plan.actions called.action ≡ Some called.request.op }
+    requires part { HasParts N.table 1 [] [] part }
+    ensures recorded { result.recorded ≡ called }
+    ensures part { HasParts N.table 1 [] (record_of (entry_of called) ∷ []) result.part }
 {
-    let mut left = called;
+    let mut left = Unlogged { called, part };
     for _ in rt.forever() {
-        match log.lock(rt).record(left) {
-            Ok(recorded) => return recorded,
+        let Unlogged { called, part } = left;
+        match log.lock(rt).record(tally, called, part) {
+            Ok(logged) => return logged,
             Err(back) => left = back,
         }
         thread::yield_now();

@@ -10,6 +10,7 @@
 mod asking;
 mod before;
 mod bound;
+mod call_record;
 mod calls;
 mod cells;
 mod hinting;
@@ -30,15 +31,16 @@ mod worker;
 
 pub use before::{Before, SeenResult};
 pub use bound::{HintBound, PlanBound};
-pub use cells::Cells;
+pub use call_record::CallRecord;
+pub use cells::{Cells, Unpublished};
 pub use hinting::Hinting;
 pub use hints::{HintStealer, Hints};
-pub use log::{Log, logs_are_shared};
+pub use log::{Log, Logged, Unlogged, logs_are_shared};
 pub use memo::Memo;
 pub use progress::WalkProgress;
 pub use reading::Reading;
 pub use result_cells::ResultCells;
-pub use shared::{BorrowedInput, SharedWalk, WalkInput, WorkerState};
+pub use shared::{BorrowedInput, SharedWalk, WalkInput, WorkerEnd, WorkerState};
 pub use sharing::share_out;
 pub use steps::WorkerContext;
 pub use walk_brand::WalkBrand;

@@ -16,10 +16,10 @@ use tf_walk_action::{ActionResult, NotGood};
 /// A read result of an action, which stays in its cell while this lives.
 pub struct Reading<'a, N: WalkBrand> {
     action: usize,
-    claim: Claim<'a, Option<CellResult<N>>>,
+    claim: Claim<'a, CellResult<N>>,
     pub ghost own: { claim.tag ≡ action },
     pub ghost reads: { claim.right ≡ 1 },
-    pub ghost filled: { option_map_or is_some claim.value false ≡ true },
+    pub ghost filled: { option_map_or (λ kept. is_some kept.ended) claim.value false ≡ true },
 }
 
 impl<'a, N: WalkBrand> Drop for Reading<'a, N> {
@@ -33,15 +33,12 @@ impl<'a, N: WalkBrand> Reading<'a, N> {
     ghost use Rattle.tf_walk_workers.specs.Reading.{done_in};
 
     /// Returns what the claim on an action's cell reads, if there is a result.
-    pub(crate) fn of(
-        action: usize,
-        claim: Claim<'a, Option<CellResult<N>>>,
-    ) -> Option<Reading<'a, N>>
+    pub(crate) fn of(action: usize, claim: Claim<'a, CellResult<N>>) -> Option<Reading<'a, N>>
         requires own { claim.tag ≡ action }
         requires reads { claim.right ≡ 1 }
         ensures { IfSome result (λ reading. reading.action ≡ action) }
     {
-        if claim.get().is_some() {
+        if claim.get().ended.is_some() {
             Some(Reading { action, claim })
         } else {
             claim.leave();
@@ -62,8 +59,8 @@ impl<'a, N: WalkBrand> Reading<'a, N> {
         ensures same { action_result_of result.now ≡ done_in self.now }
         ensures fits { IsTrueTo N.meanings N.plan self.now.action (done_in self.now) }
     {
-        match self.claim.get() {
-            Some(kept) => &kept.ended,
+        match &self.claim.get().ended {
+            Some(ended) => ended,
             None => unreachable!(),
         }
     }

@@ -1,10 +1,13 @@
 //! The store of actions' results.
 
-ghost use Rattle.std.specs.Prelude.{◌≡◌, None, IfOk, replicate};
+ghost use Rattle.std.specs.Prelude.{◌≡◌, ◌-◌, ◌<◌, [], None, IfOk, replicate};
+ghost use Rattle.tf_walk_workers.specs.Calls.{HasParts};
 
+use crate::call_record::CallRecord;
 use crate::cells::Cells;
 use crate::walk_brand::WalkBrand;
 use std::alloc::{AllocError, Global};
+use tf_tally::{Part, Tally};
 use tf_walk_action::{ActionResult, Served, not_ended};
 
 /// The cells of some actions, and the list into which results are moved from them. A result can't be dropped, so
@@ -17,17 +20,28 @@ pub struct ResultCells<N: WalkBrand> {
 }
 
 impl<N: WalkBrand> ResultCells<N> {
-    /// Allocates the given number of empty cells, and the list.
+    /// Allocates the given number of empty cells, and the list. Each cell takes one part of the walk's tally, split off the
+    /// given part.
     ///
     /// # Errors
     ///
     /// Fails only if memory runs out.
-    pub fn new(alloc: Global, count: usize) -> Result<ResultCells<N>, AllocError>
+    pub fn new(
+        alloc: Global,
+        tally: &Tally<CallRecord>,
+        part: &mut Part<CallRecord>,
+        count: usize,
+    ) -> Result<ResultCells<N>, AllocError>
+        requires tally { tally.now ≡ N.table }
+        requires part { HasParts N.table part.old.holding.parts [] [] part.old }
+        requires enough { count < part.old.holding.parts }
         ensures cells { IfOk result (λ result_cells. result_cells.cells ≡ count) }
         ensures results { IfOk result (λ result_cells. result_cells.results.items ≡ replicate count None) }
+        ensures part { IfOk result (λ _. HasParts N.table (part.old.holding.parts - count) [] [] part.new) }
+        ensures whole { IfOk result (λ _. part.new.holding.whole ≡ part.old.holding.whole) }
     {
         let results = Vec::with_capacity(alloc, count)?;
-        match Cells::new(alloc, count) {
+        match Cells::new(alloc, tally, part, count) {
             Ok(cells) => Ok(ResultCells {
                 cells,
                 results: not_ended(results, count),
@@ -40,11 +54,13 @@ impl<N: WalkBrand> ResultCells<N> {
     }
 
     /// Discards the cells before any action has a result.
-    pub fn discard(self)
-        requires { self.results.items ≡ replicate self.cells None }
+    pub fn discard(self, tally: &Tally<CallRecord>, part: &mut Part<CallRecord>)
+        requires tally { tally.now ≡ N.table }
+        requires part { part.old.table ≡ N.table }
+        requires results { self.results.items ≡ replicate self.cells None }
     {
         let ResultCells { cells, mut results } = self;
-        cells.take_out(&mut results);
+        cells.take_out(tally, part, &mut results);
         while let Some(popped) = results.pop() {
             match popped {
                 Some(ended) => forget(ended),

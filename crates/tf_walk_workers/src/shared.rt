@@ -3,6 +3,7 @@
 ghost use Rattle.std.specs.Prelude.{◌≡◌, ℕ, List};
 
 use crate::bound::PlanBound;
+use crate::call_record::CallRecord;
 use crate::cells::Cells;
 use crate::hinting::Hinting;
 use crate::hints::HintStealer;
@@ -14,6 +15,7 @@ use std::sync::Mutex;
 use tf_claim::{Claims, Seat};
 use tf_config_names::Declarations;
 use tf_plan_data::Plan;
+use tf_tally::{Part, Tally};
 use tf_walk_action::Stop;
 
 /// What each worker has for itself.
@@ -21,10 +23,21 @@ use tf_walk_action::Stop;
 pub struct WorkerState<N: WalkBrand> {
     /// Its seat at the claims.
     pub seat: Seat,
+    /// Its part of the tally.
+    pub part: Part<CallRecord>,
     /// Its hints.
     pub hinting: Hinting<N>,
     /// The index of its own stealer in the list of all.
     pub place: usize,
+}
+
+/// What workers return once all actions have ended.
+#[derive(Drop)]
+pub struct WorkerEnd {
+    /// A seat, which joins all that they have seen and done.
+    pub seat: Seat,
+    /// Their parts of the tally.
+    pub part: Part<CallRecord>,
 }
 
 /// What all workers of a walk share, besides the providers and what they read.
@@ -36,6 +49,8 @@ pub struct SharedWalk<'a, N: WalkBrand> {
     pub stop: &'a Stop,
     /// The claims on the plan's actions.
     pub claims: &'a Claims,
+    /// The tally of the walk's calls.
+    pub tally: &'a Tally<CallRecord>,
     /// The journal, under its lock.
     pub journal: &'a Mutex<Log<N>>,
     /// The stealers of all workers' hints, in the order of the workers.

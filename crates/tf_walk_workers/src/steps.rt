@@ -1,13 +1,15 @@
 //! A worker's steps to end one action.
 
-ghost use Rattle.std.specs.Prelude.{◌≡◌, ◌<◌, IfSome, map};
+ghost use Rattle.std.specs.Prelude.{◌≡◌, ◌<◌, [], IfSome, map};
 ghost use Rattle.tf_walk_action.specs.Words.{action_result_of, ended_action, HasCause, names_in};
+ghost use Rattle.tf_walk_workers.specs.Calls.{HasParts, told_of};
 ghost use Rattle.tf_walk_workers.specs.Ideal.{IsEndOf, IsTrueTo};
 ghost use Rattle.tf_walk_workers.specs.Memo.{IsTrueMemo};
 ghost use Rattle.tf_walk_workers.specs.Shared.{IsOfWalk};
 
-use crate::calls::serve;
-use crate::cells::Cells;
+use crate::call_record::CallRecord;
+use crate::calls::{ActionEnd, serve, with_part};
+use crate::cells::{Cells, Unpublished};
 use crate::log::Log;
 use crate::memo::Memo;
 use crate::walk_brand::WalkBrand;
@@ -18,10 +20,11 @@ use tf_claim::{Finished, Permit};
 use tf_config_names::Declarations;
 use tf_plan_data::Plan;
 use tf_provider::Provider;
+use tf_tally::{Part, Tally};
 use tf_walk_action::{ActionResult, Stop};
 
 /// What a worker uses, besides the providers: the plan of a walk, the names of its configuration, the cells of the
-/// plan's actions, the journal that workers share, and the flag that stops the walk.
+/// plan's actions, the journal that workers share, the tally of calls, and the flag that stops the walk.
 #[derive(Drop)]
 pub struct WorkerContext<'a, N: WalkBrand, R> {
     /// The runtime by which it waits.
@@ -36,6 +39,8 @@ pub struct WorkerContext<'a, N: WalkBrand, R> {
     pub cells: &'a Cells<N>,
     /// The journal.
     pub journal: &'a Mutex<Log<N>>,
+    /// The tally of the walk's calls.
+    pub tally: &'a Tally<CallRecord>,
     /// The flag that stops the walk.
     pub stop: &'a Stop,
 }
@@ -45,65 +50,98 @@ impl<'a, N: WalkBrand, R: Wait> WorkerContext<'a, N, R> {
     /// left if the walk is stopped, excused if memory for its request runs out, and faulted if its request has a
     /// fault. Otherwise its provider is called, without the lock, and the call is recorded under the lock. All
     /// actions directly before it have ended, and no result is published for it; until both hold, this waits. `memo`
-    /// is what the worker remembers for its next action, `None` at first.
+    /// is what the worker remembers for its next action, `None` at first. The given part goes into the action's cell, to
+    /// tell the action's call, and the one that was there is returned.
     pub fn end_action(
         &self,
         providers: &[Box<dyn Provider + Sync>],
         permit: Permit,
         memo: &mut Option<Memo<'a, N>>,
-    ) -> Finished
+        part: Part<CallRecord>,
+    ) -> (Finished, Part<CallRecord>)
         requires walk { IsOfWalk N.plan N.meanings self.now.plan.now (names_in self.now.names.now) self.now.cells.now (map meaning providers.now) }
+        requires tally { self.now.tally.now ≡ N.table }
         requires within { permit < self.now.plan.now.order.nodes }
+        requires part { HasParts N.table 1 [] [] part }
         requires memo { IfSome memo.old (IsTrueMemo N.meanings N.plan self.now.plan.now (names_in self.now.names.now)) }
-        ensures finished { result ≡ permit }
+        ensures finished { result.0 ≡ permit }
+        ensures part { HasParts N.table 1 [] [] result.1 }
         ensures memo { IfSome memo.new (IsTrueMemo N.meanings N.plan self.now.plan.now (names_in self.now.names.now)) }
     {
         let action = permit.action();
-        let (ended, finished) = self.come_to_end(providers, permit, memo);
-        publish(self.rt, self.cells, action, ended);
-        finished
+        let ActionEnd {
+            ended,
+            finished,
+            part,
+        } = self.come_to_end(providers, permit, memo, part);
+        let part = publish(self.rt, self.cells, action, ended, part);
+        (finished, part)
     }
 
-    /// Returns the result of a claimed action. Waits until the results of all actions directly before it can be read.
+    /// Returns the result of a claimed action, and a part that tells its call, in place of the given one. Waits until the
+    /// results of all actions directly before it can be read.
+    #[tactic(auto, using(crate::proofs::Recording::tells_none))]
     fn come_to_end(
         &self,
         providers: &[Box<dyn Provider + Sync>],
         permit: Permit,
         memo: &mut Option<Memo<'a, N>>,
-    ) -> (ActionResult, Finished)
+        part: Part<CallRecord>,
+    ) -> ActionEnd
         requires walk { IsOfWalk N.plan N.meanings self.now.plan.now (names_in self.now.names.now) self.now.cells.now (map meaning providers.now) }
+        requires tally { self.now.tally.now ≡ N.table }
         requires within { permit < self.now.plan.now.order.nodes }
+        requires part { HasParts N.table 1 [] [] part }
         requires memo { IfSome memo.old (IsTrueMemo N.meanings N.plan self.now.plan.now (names_in self.now.names.now)) }
-        ensures finished { result.1 ≡ permit }
-        ensures action { ended_action result.0 ≡ permit }
-        ensures cause { HasCause N.plan.order result.0 }
-        ensures ended { IsTrueTo N.meanings N.plan permit (action_result_of result.0) }
+        ensures finished { result.finished ≡ permit }
+        ensures action { ended_action result.ended ≡ permit }
+        ensures cause { HasCause N.plan.order result.ended }
+        ensures ended { IsTrueTo N.meanings N.plan permit (action_result_of result.ended) }
+        ensures part { HasParts N.table 1 [] (told_of result.ended) result.part }
         ensures memo { IfSome memo.new (IsTrueMemo N.meanings N.plan self.now.plan.now (names_in self.now.names.now)) }
     {
         let action = permit.action();
         if let Some(bad) = self.not_good_before(memo, action) {
-            return ActionResult::skipped(permit, bad);
+            return with_part(ActionResult::skipped(permit, bad), part);
         }
         if let Some(stopped) = self.stop.look() {
-            return ActionResult::left(permit, stopped);
+            return with_part(ActionResult::left(permit, stopped), part);
         }
         match self.ask(providers, action, memo) {
-            Err(AllocError) => ActionResult::not_asked(permit),
-            Ok(Err(faulted)) => ActionResult::faulted(permit, faulted),
-            Ok(Ok(asking)) => serve(self.rt, providers, self.journal, permit, asking),
+            Err(AllocError) => with_part(ActionResult::not_asked(permit), part),
+            Ok(Err(faulted)) => with_part(ActionResult::faulted(permit, faulted), part),
+            Ok(Ok(asking)) => serve(
+                self.rt,
+                providers,
+                self.journal,
+                self.tally,
+                permit,
+                asking,
+                part,
+            ),
         }
     }
 }
 
-/// Publishes the result of an action. Tries again as long as a result is already published for it.
-fn publish<N: WalkBrand, R: Wait>(rt: &R, cells: &Cells<N>, action: usize, ended: ActionResult)
+/// Publishes the result of an action with the part that tells its call, and returns the part that its cell had. Tries again
+/// as long as a result is already published for it.
+fn publish<N: WalkBrand, R: Wait>(
+    rt: &R,
+    cells: &Cells<N>,
+    action: usize,
+    ended: ActionResult,
+    part: Part<CallRecord>,
+) -> Part<CallRecord>
     requires action { action < cells.now }
     requires own { IsEndOf N.meanings N.plan action ended }
+    requires part { HasParts N.table 1 [] (told_of ended) part }
+    ensures { HasParts N.table 1 [] [] result }
 {
-    let mut left = ended;
+    let mut left = Unpublished { ended, part };
     for _ in rt.forever() {
-        match cells.publish(action, left) {
-            Ok(()) => return,
+        let Unpublished { ended, part } = left;
+        match cells.publish(action, ended, part) {
+            Ok(part) => return part,
             Err(back) => left = back,
         }
         thread::yield_now();

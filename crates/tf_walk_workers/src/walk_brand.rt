@@ -1,18 +1,21 @@
 //! The walk that cells belong to.
 
 ghost use Rattle.std.specs.Prelude.{List, []};
+ghost use Rattle.atomic_table.specs.Seated.{TableId};
 ghost use Rattle.tf_plan_data.specs.Plan.{PlanView};
 ghost use Rattle.tf_provider_protocol.specs.Meaning.{Meaning};
-ghost use Rattle.tf_walk_workers.specs.NoPlan.{no_plan};
+ghost use Rattle.tf_walk_workers.specs.NoPlan.{no_plan, no_table};
 
 use std::marker::Brand;
 
-/// The walk that cells belong to, as plain data: the providers' meanings, and the plan. It is for contracts alone:
+/// The walk that cells belong to, as plain data: the providers' meanings, the plan, and the tally of its calls. It is for contracts alone:
 /// each call that starts a walk chooses it.
 pub trait WalkBrand {
     ghost meanings: { List Meaning };
 
     ghost plan: { PlanView };
+
+    ghost table: { TableId };
 }
 
 /// The default, if no call chooses another: no provider, and nothing to do.
@@ -20,4 +23,6 @@ impl WalkBrand for Brand {
     ghost meanings = { [] };
 
     ghost plan = { no_plan };
+
+    ghost table = { no_table };
 }

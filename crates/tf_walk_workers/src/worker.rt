@@ -2,17 +2,21 @@
 
 ghost use Rattle.std.specs.Prelude.{◌≡◌, ◌<◌, List, map};
 ghost use Rattle.tf_walk_workers.specs.Post.{IsPost};
+ghost use Rattle.tf_walk_workers.specs.Sharing.{IsWorkerEnd, IsWorkerState};
 ghost use Rattle.tf_walk_workers.specs.Walk.{IsOneWalk};
 
 use crate::bound::PlanBound;
+use crate::call_record::CallRecord;
+use crate::hinting::Hinting;
 use crate::hints::HintStealer;
 use crate::memo::Memo;
-use crate::shared::{SharedWalk, WalkInput, WorkerState};
+use crate::shared::{SharedWalk, WalkInput, WorkerEnd, WorkerState};
 use crate::steps::WorkerContext;
 use crate::walk_brand::WalkBrand;
 use std::sync::Wait;
 use tf_claim::Seat;
 use tf_provider::Provider;
+use tf_tally::Part;
 
 /// Ends actions, one after another, until all have ended. Waits for news if there is nothing to do.
 pub(crate) fn work<N: WalkBrand, B: WalkInput<N>, R: Wait>(
@@ -21,18 +25,27 @@ pub(crate) fn work<N: WalkBrand, B: WalkInput<N>, R: Wait>(
     walk_input: &B,
     providers: &[Box<dyn Provider + Sync>],
     worker_state: WorkerState<N>,
-) -> Seat
-    requires walk { IsOneWalk N.plan N.meanings (B.planned walk_input.now) (B.named walk_input.now) (B.count walk_input.now) walk.now.claims.now.graph (map meaning providers.now) }
-    requires seat { worker_state.seat.table ≡ walk.now.claims.now.table }
-    ensures { result.table ≡ walk.now.claims.now.table }
+) -> WorkerEnd
+    requires walk { IsOneWalk N.plan N.meanings (B.planned walk_input.now) (B.named walk_input.now) (B.count walk_input.now) walk.now.claims.now.graph walk.now.tally.now N.table (map meaning providers.now) }
+    requires worker_state { IsWorkerState walk.now.claims.now.table walk.now.tally.now worker_state }
+    ensures { IsWorkerEnd walk.now.claims.now.table walk.now.tally.now 1 result }
 {
     let worker = Worker {
         rt,
         walk,
         walk_input,
     };
+    let WorkerState {
+        seat,
+        part,
+        hinting,
+        place,
+    } = worker_state;
     let mut post = Post {
-        worker_state,
+        seat,
+        part: Some(part),
+        hinting,
+        place,
         memo: None,
     };
     let all = walk.claims.graph().nodes() as u64;
@@ -53,21 +66,25 @@ pub(crate) fn work<N: WalkBrand, B: WalkInput<N>, R: Wait>(
     }
     walk.progress.tell_news(walk.stealers.len() as u64);
     let Post {
-        worker_state,
-        memo: _,
-    } = post;
-    let WorkerState {
         seat,
+        part,
         hinting: _,
         place: _,
-    } = worker_state;
-    seat
+        memo: _,
+    } = post;
+    match part {
+        Some(part) => WorkerEnd { seat, part },
+        None => unreachable!(),
+    }
 }
 
-/// What each worker has for itself: its state, and its memo of the last request.
+/// What each worker has for itself: its state, and its memo of the last request. While it ends an action it has no part.
 #[derive(Drop)]
 struct Post<'a, N: WalkBrand> {
-    worker_state: WorkerState<N>,
+    seat: Seat,
+    part: Option<Part<CallRecord>>,
+    hinting: Hinting<N>,
+    place: usize,
     memo: Option<Memo<'a, N>>,
 }
 
@@ -83,9 +100,9 @@ impl<'a, N: WalkBrand, B: WalkInput<N>, R: Wait> Worker<'a, '_, N, B, R> {
     /// Ends an action that may be claimed, and returns whether there was one. Takes a hint of its own, or else the
     /// first action in the list that no worker has looked at, or else a hint of another worker.
     fn go_on(&self, providers: &[Box<dyn Provider + Sync>], post: &mut Post<'a, N>) -> bool
-        requires walk { IsOneWalk N.plan N.meanings (B.planned self.now.walk_input.now) (B.named self.now.walk_input.now) (B.count self.now.walk_input.now) self.now.walk.now.claims.now.graph (map meaning providers.now) }
-        requires post { IsPost N.meanings N.plan (B.planned self.now.walk_input.now) (B.named self.now.walk_input.now) self.now.walk.now.claims.now post.old }
-        ensures { IsPost N.meanings N.plan (B.planned self.now.walk_input.now) (B.named self.now.walk_input.now) self.now.walk.now.claims.now post.new }
+        requires walk { IsOneWalk N.plan N.meanings (B.planned self.now.walk_input.now) (B.named self.now.walk_input.now) (B.count self.now.walk_input.now) self.now.walk.now.claims.now.graph self.now.walk.now.tally.now N.table (map meaning providers.now) }
+        requires post { IsPost N.meanings N.plan N.table (B.planned self.now.walk_input.now) (B.named self.now.walk_input.now) self.now.walk.now.claims.now post.old }
+        ensures { IsPost N.meanings N.plan N.table (B.planned self.now.walk_input.now) (B.named self.now.walk_input.now) self.now.walk.now.claims.now post.new }
     {
         self.take_own_hint(providers, post)
             || self.look_on(providers, post)
@@ -94,12 +111,12 @@ impl<'a, N: WalkBrand, B: WalkInput<N>, R: Wait> Worker<'a, '_, N, B, R> {
 
     /// Ends an action by one of the worker's own hints. Drops hints at actions that can't be claimed.
     fn take_own_hint(&self, providers: &[Box<dyn Provider + Sync>], post: &mut Post<'a, N>) -> bool
-        requires walk { IsOneWalk N.plan N.meanings (B.planned self.now.walk_input.now) (B.named self.now.walk_input.now) (B.count self.now.walk_input.now) self.now.walk.now.claims.now.graph (map meaning providers.now) }
-        requires post { IsPost N.meanings N.plan (B.planned self.now.walk_input.now) (B.named self.now.walk_input.now) self.now.walk.now.claims.now post.old }
-        ensures { IsPost N.meanings N.plan (B.planned self.now.walk_input.now) (B.named self.now.walk_input.now) self.now.walk.now.claims.now post.new }
+        requires walk { IsOneWalk N.plan N.meanings (B.planned self.now.walk_input.now) (B.named self.now.walk_input.now) (B.count self.now.walk_input.now) self.now.walk.now.claims.now.graph self.now.walk.now.tally.now N.table (map meaning providers.now) }
+        requires post { IsPost N.meanings N.plan N.table (B.planned self.now.walk_input.now) (B.named self.now.walk_input.now) self.now.walk.now.claims.now post.old }
+        ensures { IsPost N.meanings N.plan N.table (B.planned self.now.walk_input.now) (B.named self.now.walk_input.now) self.now.walk.now.claims.now post.new }
     {
         for _ in self.rt.forever() {
-            let Some(hint) = post.worker_state.hinting.hints.pop() else {
+            let Some(hint) = post.hinting.hints.pop() else {
                 return false;
             };
             if self.end_if_free(providers, post, hint) {
@@ -111,11 +128,11 @@ impl<'a, N: WalkBrand, B: WalkInput<N>, R: Wait> Worker<'a, '_, N, B, R> {
 
     /// Ends an action by a stolen hint, beginning with the next worker.
     fn steal_hint(&self, providers: &[Box<dyn Provider + Sync>], post: &mut Post<'a, N>) -> bool
-        requires walk { IsOneWalk N.plan N.meanings (B.planned self.now.walk_input.now) (B.named self.now.walk_input.now) (B.count self.now.walk_input.now) self.now.walk.now.claims.now.graph (map meaning providers.now) }
-        requires post { IsPost N.meanings N.plan (B.planned self.now.walk_input.now) (B.named self.now.walk_input.now) self.now.walk.now.claims.now post.old }
-        ensures { IsPost N.meanings N.plan (B.planned self.now.walk_input.now) (B.named self.now.walk_input.now) self.now.walk.now.claims.now post.new }
+        requires walk { IsOneWalk N.plan N.meanings (B.planned self.now.walk_input.now) (B.named self.now.walk_input.now) (B.count self.now.walk_input.now) self.now.walk.now.claims.now.graph self.now.walk.now.tally.now N.table (map meaning providers.now) }
+        requires post { IsPost N.meanings N.plan N.table (B.planned self.now.walk_input.now) (B.named self.now.walk_input.now) self.now.walk.now.claims.now post.old }
+        ensures { IsPost N.meanings N.plan N.table (B.planned self.now.walk_input.now) (B.named self.now.walk_input.now) self.now.walk.now.claims.now post.new }
     {
-        let own = post.worker_state.place.min(self.walk.stealers.len());
+        let own = post.place.min(self.walk.stealers.len());
         let (before, behind) = self.walk.stealers.split_at(own);
         self.steal_from_any(providers, post, behind) || self.steal_from_any(providers, post, before)
     }
@@ -127,9 +144,9 @@ impl<'a, N: WalkBrand, B: WalkInput<N>, R: Wait> Worker<'a, '_, N, B, R> {
         post: &mut Post<'a, N>,
         stealers: &[HintStealer<PlanBound<N>>],
     ) -> bool
-        requires walk { IsOneWalk N.plan N.meanings (B.planned self.now.walk_input.now) (B.named self.now.walk_input.now) (B.count self.now.walk_input.now) self.now.walk.now.claims.now.graph (map meaning providers.now) }
-        requires post { IsPost N.meanings N.plan (B.planned self.now.walk_input.now) (B.named self.now.walk_input.now) self.now.walk.now.claims.now post.old }
-        ensures { IsPost N.meanings N.plan (B.planned self.now.walk_input.now) (B.named self.now.walk_input.now) self.now.walk.now.claims.now post.new }
+        requires walk { IsOneWalk N.plan N.meanings (B.planned self.now.walk_input.now) (B.named self.now.walk_input.now) (B.count self.now.walk_input.now) self.now.walk.now.claims.now.graph self.now.walk.now.tally.now N.table (map meaning providers.now) }
+        requires post { IsPost N.meanings N.plan N.table (B.planned self.now.walk_input.now) (B.named self.now.walk_input.now) self.now.walk.now.claims.now post.old }
+        ensures { IsPost N.meanings N.plan N.table (B.planned self.now.walk_input.now) (B.named self.now.walk_input.now) self.now.walk.now.claims.now post.new }
     {
         for stealer in stealers {
             if self.steal_from(providers, post, stealer) {
@@ -147,9 +164,9 @@ impl<'a, N: WalkBrand, B: WalkInput<N>, R: Wait> Worker<'a, '_, N, B, R> {
         post: &mut Post<'a, N>,
         stealer: &HintStealer<PlanBound<N>>,
     ) -> bool
-        requires walk { IsOneWalk N.plan N.meanings (B.planned self.now.walk_input.now) (B.named self.now.walk_input.now) (B.count self.now.walk_input.now) self.now.walk.now.claims.now.graph (map meaning providers.now) }
-        requires post { IsPost N.meanings N.plan (B.planned self.now.walk_input.now) (B.named self.now.walk_input.now) self.now.walk.now.claims.now post.old }
-        ensures { IsPost N.meanings N.plan (B.planned self.now.walk_input.now) (B.named self.now.walk_input.now) self.now.walk.now.claims.now post.new }
+        requires walk { IsOneWalk N.plan N.meanings (B.planned self.now.walk_input.now) (B.named self.now.walk_input.now) (B.count self.now.walk_input.now) self.now.walk.now.claims.now.graph self.now.walk.now.tally.now N.table (map meaning providers.now) }
+        requires post { IsPost N.meanings N.plan N.table (B.planned self.now.walk_input.now) (B.named self.now.walk_input.now) self.now.walk.now.claims.now post.old }
+        ensures { IsPost N.meanings N.plan N.table (B.planned self.now.walk_input.now) (B.named self.now.walk_input.now) self.now.walk.now.claims.now post.new }
     {
         for _ in self.rt.forever() {
             let Some(hint) = stealer.steal(self.rt) else {
@@ -166,9 +183,9 @@ impl<'a, N: WalkBrand, B: WalkInput<N>, R: Wait> Worker<'a, '_, N, B, R> {
     /// unless a hint is lost. So a worker passes over an action that can't be claimed yet: the worker that ends the
     /// last action before it gives a hint at it.
     fn look_on(&self, providers: &[Box<dyn Provider + Sync>], post: &mut Post<'a, N>) -> bool
-        requires walk { IsOneWalk N.plan N.meanings (B.planned self.now.walk_input.now) (B.named self.now.walk_input.now) (B.count self.now.walk_input.now) self.now.walk.now.claims.now.graph (map meaning providers.now) }
-        requires post { IsPost N.meanings N.plan (B.planned self.now.walk_input.now) (B.named self.now.walk_input.now) self.now.walk.now.claims.now post.old }
-        ensures { IsPost N.meanings N.plan (B.planned self.now.walk_input.now) (B.named self.now.walk_input.now) self.now.walk.now.claims.now post.new }
+        requires walk { IsOneWalk N.plan N.meanings (B.planned self.now.walk_input.now) (B.named self.now.walk_input.now) (B.count self.now.walk_input.now) self.now.walk.now.claims.now.graph self.now.walk.now.tally.now N.table (map meaning providers.now) }
+        requires post { IsPost N.meanings N.plan N.table (B.planned self.now.walk_input.now) (B.named self.now.walk_input.now) self.now.walk.now.claims.now post.old }
+        ensures { IsPost N.meanings N.plan N.table (B.planned self.now.walk_input.now) (B.named self.now.walk_input.now) self.now.walk.now.claims.now post.new }
     {
         let all = self.walk.claims.graph().nodes();
         for _ in self.rt.forever() {
@@ -191,14 +208,17 @@ impl<'a, N: WalkBrand, B: WalkInput<N>, R: Wait> Worker<'a, '_, N, B, R> {
         post: &mut Post<'a, N>,
         action: usize,
     ) -> bool
-        requires walk { IsOneWalk N.plan N.meanings (B.planned self.now.walk_input.now) (B.named self.now.walk_input.now) (B.count self.now.walk_input.now) self.now.walk.now.claims.now.graph (map meaning providers.now) }
-        requires post { IsPost N.meanings N.plan (B.planned self.now.walk_input.now) (B.named self.now.walk_input.now) self.now.walk.now.claims.now post.old }
+        requires walk { IsOneWalk N.plan N.meanings (B.planned self.now.walk_input.now) (B.named self.now.walk_input.now) (B.count self.now.walk_input.now) self.now.walk.now.claims.now.graph self.now.walk.now.tally.now N.table (map meaning providers.now) }
+        requires post { IsPost N.meanings N.plan N.table (B.planned self.now.walk_input.now) (B.named self.now.walk_input.now) self.now.walk.now.claims.now post.old }
         requires action { action < N.plan.order.nodes }
-        ensures { IsPost N.meanings N.plan (B.planned self.now.walk_input.now) (B.named self.now.walk_input.now) self.now.walk.now.claims.now post.new }
+        ensures { IsPost N.meanings N.plan N.table (B.planned self.now.walk_input.now) (B.named self.now.walk_input.now) self.now.walk.now.claims.now post.new }
     {
         let walk = self.walk;
-        let Some(permit) = walk.claims.claim(&mut post.worker_state.seat, action) else {
+        let Some(permit) = walk.claims.claim(&mut post.seat, action) else {
             return false;
+        };
+        let Some(part) = post.part.take() else {
+            unreachable!()
         };
         let context = WorkerContext {
             rt: self.rt,
@@ -207,18 +227,19 @@ impl<'a, N: WalkBrand, B: WalkInput<N>, R: Wait> Worker<'a, '_, N, B, R> {
             names: self.walk_input.names(),
             cells: self.walk_input.cells(),
             journal: walk.journal,
+            tally: walk.tally,
             stop: walk.stop,
         };
-        let finished = context.end_action(providers, permit, &mut post.memo);
-        let worker_state = &mut post.worker_state;
-        worker_state.hinting.begin();
-        walk.claims.finish(&mut worker_state.seat, finished);
+        let (finished, part) = context.end_action(providers, permit, &mut post.memo, part);
+        post.part = Some(part);
+        post.hinting.begin();
+        walk.claims.finish(&mut post.seat, finished);
         walk.claims
-            .let_go_from(&mut worker_state.seat, action, &mut worker_state.hinting);
-        if worker_state.hinting.is_lost {
+            .let_go_from(&mut post.seat, action, &mut post.hinting);
+        if post.hinting.is_lost {
             walk.progress.look_anew();
         }
-        walk.progress.tell_end(worker_state.hinting.free);
+        walk.progress.tell_end(post.hinting.free);
         true
     }
 }

@@ -1,4 +1,4 @@
--- the walk is named by its providers and its plan
+-- the walk is named by its providers, its plan and its tally
 use Rattle.std.proofs.Common.{map}
 use Rattle.tf_plan_data.specs.Plan.{plan_of}
 use Rattle.tf_walk.proofs.many.run_and_close.Given as goal
@@ -8,4 +8,5 @@ ghosts-run_as g a =
     record {
       meanings = map (λ b. (g.dyn-1.0.entry b.vtable).1.meaning b.value) a.providers.now;
       plan = plan_of a.plan.now;
+      table = a.tally.now;
     }

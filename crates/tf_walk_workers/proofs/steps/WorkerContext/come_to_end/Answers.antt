@@ -1,4 +1,4 @@
-use Rattle.std.proofs.Common.{ℕ, Result, map, refl, sym, subst}
+use Rattle.std.proofs.Common.{◌∙◌, ℕ, Result, map, refl, sym, subst}
 use Rattle.tf_walk_action.specs.AskedBy.{asked_by}
 use Rattle.tf_walk_workers.specs.Ideal.{IsTrueTo}
 use Rattle.tf_plan_object.specs.Instance.{instance_fault_of}
@@ -16,11 +16,11 @@ returns-in-Ok-Err-clause-ended g c =
     let told = faulted (instance_fault_of c.in-Ok-Err.faulted.fault) in
     let run : IsRun (comes_of ms (asked_by c.in-Ok-Err.field-0)) told = subst (λ (made : Result PreparedCall Faulted). IsRun (comes_of ms (asked_by made)) told) (sym c.in-Ok-Err.field-0-is) refl in
     let is : IsTrueTo g.N.WalkBrand.meanings g.N.WalkBrand.plan c.args.permit told = subst (λ (n : ℕ). IsTrueTo g.N.WalkBrand.meanings g.N.WalkBrand.plan n told) c.action-action.ensures (c.in-Ok-Err.ensures.asked told run) in
-    subst (λ (e : ActionResult). IsTrueTo g.N.WalkBrand.meanings g.N.WalkBrand.plan c.args.permit (action_result_of e)) (sym c.faulted.ensures.ended) is
+    subst (λ (e : ActionResult). IsTrueTo g.N.WalkBrand.meanings g.N.WalkBrand.plan c.args.permit (action_result_of e)) (sym (c.with_part-in-Ok-Err.ensures.ended ∙ c.faulted.ensures.ended)) is
 
 pub returns-in-Ok-Ok-clause-ended : goal.returns-in-Ok-Ok-clause-ended
 returns-in-Ok-Ok-clause-ended g c =
     let ms = map (λ b. (goal.Provider-dyn g (b.vtable, b.value)).meaning b.value) c.args.providers.now in
-    let told = action_result_of c.serve.result.0 in
+    let told = action_result_of c.serve.result.ended in
     let run : IsRun (comes_of ms (asked_by c.in-Ok-Ok.field-0)) told = subst (λ (made : Result PreparedCall Faulted). IsRun (comes_of ms (asked_by made)) told) (sym c.in-Ok-Ok.field-0-is) c.serve.ensures.ended in
     subst (λ (n : ℕ). IsTrueTo g.N.WalkBrand.meanings g.N.WalkBrand.plan n told) c.action-action.ensures (c.in-Ok-Ok.ensures.asked told run)

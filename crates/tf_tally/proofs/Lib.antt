@@ -1,0 +1,4 @@
+pub mod Keeping
+pub mod Steps
+pub mod Seating
+pub mod Sharing

@@ -1,0 +1,12 @@
+use Rattle.std.proofs.Common.{arith}
+use Rattle.tf_tally.proofs.Seating.{same_table}
+use Rattle.tf_tally.proofs.Steps.{adds}
+use Rattle.tf_tally.proofs.tally.Tally.add.Goals as goal
+
+pub compare_exchange_with-requires : goal.compare_exchange_with-requires
+compare_exchange_with-requires g c =
+    let one = c.self.invariant in (
+      same_table _ _ _ _ c.part.view_is c.self.view_is c.requires.part,
+      omega arith,
+      adds _ _ _ 0 0 0 _ _ c.part.invariant.1,
+    )

@@ -1,0 +1,3 @@
+pub mod Holdings
+pub mod Laws
+pub mod Plays

@@ -1,0 +1,16 @@
+//! What one part has.
+
+use std::collections::LinkedList;
+
+/// What one part has: so many of the tally's parts, the entries that it keeps, and those that it tells. It is for contracts
+/// alone: no value of it is made.
+pub struct Holding<E> {
+    /// How many parts the tally has in all.
+    pub whole: u64,
+    /// How many of them these are.
+    pub parts: u64,
+    /// The entries that are kept here, in the order in which they were added.
+    pub kept: LinkedList<E>,
+    /// The entries that are told here, in the order in which they were added.
+    pub told: LinkedList<E>,
+}

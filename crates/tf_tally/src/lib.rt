@@ -1,0 +1,16 @@
+//! A ledger whose amounts are lists of entries.
+//!
+//! A `Tally` deals out a fixed number of parts. A part keeps entries and tells entries: each entry that is added is kept and
+//! told once, and then the part can be split, so that one part goes on to keep it and another to tell it. Whoever has all
+//! parts together knows that exactly what is kept is told. Parts can't be copied, and recording an entry takes no memory.
+#![tactic(auto)]
+
+mod holding;
+pub mod laws;
+mod part;
+mod rule;
+mod tally;
+
+pub use holding::Holding;
+pub use part::Part;
+pub use tally::Tally;
