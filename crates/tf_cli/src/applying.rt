@@ -50,7 +50,7 @@ pub fn apply_text<R: Threads + Wait + Sync>(
 ) -> Result<Applied, Refused>
     ensures applied { IfOk result (IsApplied (map meaning providers.now) (the_texts config.now (option_map (λ s. s.now) vars.entry) (option_map (λ s. s.now) state.entry)) lineage.now) }
     ensures workers { IfOk result (λ _. are_workers workers ≡ true) }
-    ensures whole { workers ≡ 1 → IfOk result (λ answer. is_whole answer.walked ≡ true) }
+    ensures whole { IfOk result (λ answer. is_whole answer.walked ≡ true) }
     ensures refused { IfErr result (Tells (AreApplyRefusals (map meaning providers.now) (the_texts config.now (option_map (λ s. s.now) vars.entry) (option_map (λ s. s.now) state.entry)) lineage.now workers)) }
 {
     if workers == 1 {
@@ -115,7 +115,7 @@ fn carry_out<R: Threads + Wait + Sync>(
     requires starts { MayStart (map meaning providers.now) (plan_of planned.now) }
     ensures carried_out { IfOk result (IsCarriedOut (map meaning providers.now) (plan_of planned.now)) }
     ensures workers { IfOk result (λ _. are_workers workers ≡ true) }
-    ensures whole { workers ≡ 1 → IfOk result (λ answer. is_whole answer.walked ≡ true) }
+    ensures whole { IfOk result (λ answer. is_whole answer.walked ≡ true) }
     ensures refused { IfErr result (Tells (IsNumberRefused workers)) }
 {
     let text = shown(alloc, planned)?;

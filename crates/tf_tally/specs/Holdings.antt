@@ -22,11 +22,11 @@ first_holding whole = holding whole whole [] []
 abbrev pub blank : {E : Type 0} → Holding E
 blank = holding 0 0 [] []
 
--- what stays where one part was split off: all that was kept, and nothing that was told
+-- what stays where one part was split off: all that was kept, and nothing that was reported
 abbrev pub staying : {E : Type 0} → Holding E → Holding E
 staying v = holding v.whole (v.parts - 1) v.kept []
 
--- what the part has that was split off: all that was told, and nothing that was kept
+-- what the part has that was split off: all that was reported, and nothing that was kept
 abbrev pub going : {E : Type 0} → Holding E → Holding E
 going v = holding v.whole 1 [] v.told
 
@@ -42,7 +42,7 @@ added entry v = holding v.whole v.parts (v.kept ++ entry ∷ []) (v.told ++ entr
 abbrev pub IsAll : {E : Type 0} → Holding E → Type 0
 IsAll v = v.parts ≡ v.whole
 
--- What is told weighs what is kept, however entries are weighed. So each entry is told as often as it is kept.
+-- What is reported weighs what is kept, however entries are weighed. So each entry is reported as often as it is kept.
 abbrev pub IsBalanced : {E : Type 0} → Holding E → Type 0
 IsBalanced {E} v = (h : E → ℕ) → sum_by h v.told ≡ sum_by h v.kept
 
@@ -60,12 +60,12 @@ kept_weight h v = sum_by h v.kept
 abbrev pub told_weight : {E : Type 0} → (E → ℕ) → Holding E → ℕ
 told_weight h v = sum_by h v.told
 
--- A holding with no part keeps and tells nothing, and one with a part knows how many there are in all.
+-- A holding with no part keeps and reports nothing, and one with a part knows how many there are in all.
 pub record IsSound {E : Type 0} (whole : ℕ) (v : Holding E) : Type 0 where
   pub none : v.parts ≡ 0 → (v.kept ≡ []) × (v.told ≡ [])
   pub some_part : 0 < v.parts → v.whole ≡ whole
 
--- The rule of a tally: no part is lost or made up, and what all holdings tell weighs what all holdings keep. The holding of a
+-- The rule of a tally: no part is lost or made up, and what all holdings report weighs what all holdings keep. The holding of a
 -- part that was dropped counts too.
 pub record IsKept {E : Type 0} (whole : ℕ) (views : List (Holding E)) : Type 0 where
   pub parts : total parts_of views ≡ whole

@@ -6,7 +6,7 @@ use lib.ListN.{get_elem?}
 use Rattle.tf_tally.specs.declared.holding.Holding.{Holding}
 use Rattle.tf_tally.specs.Holdings.{IsKept, IsBalanced}
 
--- A holding is balanced, and every other one has no part, and keeps and tells nothing.
+-- A holding is balanced, and every other one has no part, and keeps and reports nothing.
 pub record KnowsAll {E : Type 0} (views : List (Holding E)) (k : ℕ) (v : Holding E) : Type 0 where
   pub balanced : IsBalanced v
   pub others : (other : ℕ) (w : Holding E) → other ≢ k → get_elem? views other ≡ some w → (w.parts ≡ 0) × (w.kept ≡ []) × (w.told ≡ [])
@@ -15,7 +15,7 @@ pub record KnowsAll {E : Type 0} (views : List (Holding E)) (k : ℕ) (v : Holdi
 abbrev pub AllKnow : Type 0 → Type 0
 AllKnow E = (whole : ℕ) (views : List (Holding E)) (k : ℕ) (v : Holding E) → IsKept whole views → get_elem? views k ≡ some v → v.parts ≡ whole → KnowsAll views k v
 
--- as many entries are told as are kept, in all and of those that pass a test
+-- as many entries are reported as are kept, in all and of those that pass a test
 pub record Agrees {E : Type 0} (v : Holding E) : Type 0 where
   pub in_all : length v.told ≡ length v.kept
   pub passing : (p : E → Bool) → count_by p v.told ≡ count_by p v.kept

@@ -2,7 +2,7 @@
 
 use std::collections::LinkedList;
 
-/// What one part has: so many of the tally's parts, the entries that it keeps, and those that it tells. It is for contracts
+/// What one part has: a number of the tally's parts, the entries that it keeps, and those that it reports. It is for contracts
 /// alone: no value of it is made.
 pub struct Holding<E> {
     /// How many parts the tally has in all.
@@ -11,6 +11,6 @@ pub struct Holding<E> {
     pub parts: u64,
     /// The entries that are kept here, in the order in which they were added.
     pub kept: LinkedList<E>,
-    /// The entries that are told here, in the order in which they were added.
+    /// The entries that are reported here, in the order in which they were added.
     pub told: LinkedList<E>,
 }

@@ -6,12 +6,12 @@ use crate::part::Part;
 use crate::tally::Tally;
 
 /// Who has all parts knows all: at a moment at which the rule holds and one holding has all parts, every other one has no
-/// part, keeps nothing and tells nothing, and what the one tells is balanced with what it keeps.
+/// part, keeps nothing and reports nothing, and what the one reports is balanced with what it keeps.
 pub fn all_know<E>()
     ensures { AllKnow E }
 {}
 
-/// A balanced holding tells as many entries as it keeps, in all and of those that pass a test, whatever the test is.
+/// A balanced holding reports as many entries as it keeps, in all and of those that pass a test, whatever the test is.
 pub fn balanced_agree<E>()
     ensures { BalancedAgree E }
 {}

@@ -3,7 +3,7 @@
 use crate::holding::Holding;
 use std::marker::Model;
 
-/// One part or more of the tally that it came from, with the entries that it keeps and tells. It takes no bytes, and can't be
+/// One part or more of the tally that it came from, with the entries that it keeps and reports. It takes no bytes, and can't be
 /// copied. One that is dropped is lost: nobody has all parts from then on. Contracts see which tally it is of, and a
 /// `Holding`, which has a part at least.
 #[derive(Drop)]

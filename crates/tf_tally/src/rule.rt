@@ -3,7 +3,7 @@
 use crate::holding::Holding;
 use atomic_table::{Join, Play, Split, TableRule};
 
-/// The rule that the table keeps: no part is lost, and what is told is what is kept.
+/// The rule that the table keeps: no part is lost, and what is reported is what is kept.
 pub(crate) struct Law;
 
 impl<E> TableRule<E, Holding<E>, u64> for Law {
@@ -24,7 +24,7 @@ impl<E> Play<E, Holding<E>> for Add {
     ghost then = { Adds };
 }
 
-/// A load that changes no holding. To one that has all parts it shows that what is told is what is kept.
+/// A load that changes no holding. To one that has all parts it shows that what is reported is what is kept.
 pub(crate) struct Audit;
 
 impl<E> Play<E, Holding<E>> for Audit {
@@ -33,7 +33,7 @@ impl<E> Play<E, Holding<E>> for Audit {
     ghost then = { Audits };
 }
 
-/// One part goes, with all that was told.
+/// One part goes, with all that was reported.
 pub(crate) struct Away;
 
 impl<E> Split<Holding<E>> for Away {

@@ -28,7 +28,7 @@ impl<E> Model for Tally<E> {
 }
 
 impl<E> Tally<E> {
-    /// Makes a tally of so many parts, one at least, and returns it with all of them, which keep and tell nothing yet.
+    /// Makes a tally of the given number of parts, at least one, and returns it with all of them, which keep and report nothing yet.
     ///
     /// # Errors
     ///
@@ -42,7 +42,7 @@ impl<E> Tally<E> {
         Ok((Tally { table }, Part { seat }))
     }
 
-    /// Splits one part off, of two at least. All that was told goes with it, and all that was kept stays.
+    /// Splits one part off, of two at least. All that was reported goes with it, and all that was kept stays.
     pub fn split_off(&self, part: &mut Part<E>) -> Part<E>
         requires part { part.old.table ≡ self.now }
         requires two { 1 < part.old.holding.parts }
@@ -55,7 +55,7 @@ impl<E> Tally<E> {
         Part { seat }
     }
 
-    /// Puts another part to this one, with what it keeps and what it tells, behind what is kept and told here.
+    /// Puts another part to this one, with what it keeps and what it reports, behind what is kept and reported here.
     pub fn merge(&self, part: &mut Part<E>, other: Part<E>)
         requires part { part.old.table ≡ self.now }
         requires other { other.table ≡ self.now }
@@ -68,7 +68,7 @@ impl<E> Tally<E> {
             .join_seat::<Together>(&mut part.seat, seat);
     }
 
-    /// Adds an entry to a part, which keeps it and tells it.
+    /// Adds an entry to a part, which keeps it and reports it.
     pub fn add(&self, part: &mut Part<E>, entry: &E)
         requires part { part.old.table ≡ self.now }
         ensures same { part.new.table ≡ self.now }
@@ -79,7 +79,7 @@ impl<E> Tally<E> {
             .compare_exchange_with::<Add>(&mut part.seat, 0, 0, 0, entry);
     }
 
-    /// Looks at a part, and changes nothing. Where it has all parts, what it tells is what it keeps, however entries are
+    /// Looks at a part, and changes nothing. Where it has all parts, what it reports is what it keeps, however entries are
     /// weighed.
     pub fn audit(&self, part: &mut Part<E>)
         requires part { part.old.table ≡ self.now }

@@ -79,7 +79,7 @@ so_far-asked ms requests plan ends entries done s are same n e =
     ap (λ (ds : List (ℕ × ActionResultView)). is_faulted (call_at ms requests plan n ds)) seen
     ∙ run_during (all_good (seen_by (done_in ends) nodes)) (call_at ms requests plan n (seen_by (done_in ends) nodes)) end
 
--- a report that tells what came of all actions is a report on their plan, where that is what the rule makes of the report's excuses
+-- a report that reports what came of all actions is a report on their plan, where that is what the rule makes of the report's excuses
 pub is_report-told : (ms : List Meaning) (requests : Requests) (plan : PlanView) (done : List ActionResultView) (outputs : List OutputResultView) (report : Report)
     → (((n : ℕ) → excuse_of report.excused.items n ≡ excuse_in (done_at done n)) → AreOutcomes ms requests plan report.excused.items done)
     → ((n : ℕ) → done_at done n ≡ excused during_call → is_faulted (call_at ms requests plan n (seen_by (done_at done) (predecessors_of plan.order n))) ≡ false)

@@ -1,4 +1,4 @@
--- All parts together: what the results tell is what the journal keeps.
+-- All parts together: what the results report is what the journal keeps.
 use Rattle.std.proofs.Common.{◌≡◌, ◌+◌, ℕ, List, [], ◌++◌, Option, refl, sym, ap, ◌∙◌, append-nil, arith}
 use Rattle.std.specs.List.{sum_by}
 use Rattle.atomic_table.specs.Seated.{TableId}

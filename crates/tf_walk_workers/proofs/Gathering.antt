@@ -10,7 +10,7 @@ use Rattle.tf_walk_action.specs.declared.action_result.ActionResult.{ActionResul
 use Rattle.tf_walk_workers.specs.Calls.{HasParts, IsGathered, told_by, told_weight}
 use Rattle.tf_walk_workers.specs.declared.call_record.CallRecord.{CallRecord}
 
--- So far: the parts of all but so many cells were put to a part.
+-- So far: the parts of all but this number of cells were put to a part.
 pub record IsGathering (left count : ℕ) (results : List (Option ActionResult)) (old new : HeldPart CallRecord) : Type 0 where
   pub own : new.table ≡ old.table
   pub whole : new.holding.whole ≡ old.holding.whole

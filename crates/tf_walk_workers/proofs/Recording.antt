@@ -21,12 +21,12 @@ entered_by q a (verdict.Contradicted i) = refl
 entered_by q a verdict.Malformed = refl
 entered_by q a verdict.Excused = refl
 
--- the result of a recorded call tells that call
+-- the result of a recorded call reports that call
 pub told_recorded : (call : Call) (ended : ActionResult) → ended_action ended ≡ call.action → action_result_of ended ≡ result_by (asked call.request) (answered call.reply) call.verdict → told_of ended ≡ record_of (entry_of call) ∷ []
 told_recorded call ended own is =
     ap₂ (λ (n : ℕ) (o : Option Verdict). called_with n o) own (ap entered_verdict is ∙ entered_by (asked call.request) (answered call.reply) call.verdict)
 
--- a part that tells a call, by the result of that call
+-- a part that reports a call, by the result of that call
 pub tells_recorded : (table : TableId) (call recorded : Call) (ended : ActionResult) (part new : HeldPart CallRecord) → recorded ≡ call → ended_action ended ≡ recorded.action
     → action_result_of ended ≡ result_by (asked recorded.request) (answered recorded.reply) recorded.verdict → HasParts table 1 [] (record_of (entry_of call) ∷ []) part → new ≡ part → HasParts table 1 [] (told_of ended) new
 tells_recorded table call recorded ended part new same own is has now =
@@ -34,7 +34,7 @@ tells_recorded table call recorded ended part new same own is has now =
     let old = subst (λ (p : HeldPart CallRecord). HasParts table 1 [] (record_of (entry_of call) ∷ []) p) (sym now) has in
     record { own = old.own; counts = old.counts; keeps = old.keeps; tells = old.tells ∙ sym told }
 
--- a part that tells none, beside the result of an action that wasn't called
+-- a part that reports none, beside the result of an action that wasn't called
 pub tells_none : (table : TableId) (plain ended result : ActionResult) (part new : HeldPart CallRecord) → result ≡ ended → ended ≡ plain → told_of plain ≡ [] → new ≡ part → HasParts table 1 [] [] part → HasParts table 1 [] (told_of result) new
 tells_none table plain ended result part new is same none now has =
     let old = subst (λ (p : HeldPart CallRecord). HasParts table 1 [] [] p) (sym now) has in

@@ -1,4 +1,4 @@
--- A journal that weighs what the results tell has the verdict of each called action, and of no other.
+-- A journal that weighs what the results report has the verdict of each called action, and of no other.
 use Rattle.std.proofs.Common.{◌≡◌, ◌≢◌, ◌<◌, ◌≤◌, ◌+◌, ◌==◌, ◌∙◌, ℕ, zero, suc, Bool, true, false, cond, List, [], ◌∷◌, map, length, get_or, Option, Some, None, IfSome, option_map, inl, inr, refl, sym, ap, arith, eqb, eq-eqb, ne_eqb}
 use Rattle.std.proofs.lemmas.Bool.{cases_eq}
 use Rattle.std.proofs.lemmas.List.Sums.{sum_by-cons}
@@ -140,7 +140,7 @@ told_own : (n : ℕ) (o : Option ActionResult) → IfSome o (λ ended. ended_act
 told_own n None own = refl
 told_own n (Some ended) own = ap (λ (k : ℕ). called_with k (verdict_seen (Some ended))) own
 
--- Each result is of the action at its place, and tells together what the journal keeps: the journal has the verdict of each
+-- Each result is of the action at its place, and reports together what the journal keeps: the journal has the verdict of each
 -- called action, and of no other.
 pub verdicts : (before : ℕ → List ℕ) (results : List (Option ActionResult)) (entries : List Entry)
     → IsInOrder before (actions_of entries) → ((n : ℕ) → IfSome (get_or results n None) (λ ended. ended_action ended ≡ n))

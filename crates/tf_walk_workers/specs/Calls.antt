@@ -1,4 +1,4 @@
--- The calls of a walk, as its journal keeps them and as the results of its actions tell them.
+-- The calls of a walk, as its journal keeps them and as the results of its actions report them.
 use Rattle.std.specs.Prelude.{◌≡◌, ◌+◌, ℕ, List, [], ◌∷◌, map, Option, Some, None, IfSome}
 use Rattle.std.specs.List.{sum_by}
 use Rattle.atomic_table.specs.Seated.{TableId}
@@ -25,7 +25,7 @@ abbrev pub called_with : ℕ → Option Verdict → List CallRecord
 called_with n None = []
 called_with n (Some v) = record { action = n; verdict = v } ∷ []
 
--- the call that a result tells: none, unless the action was called
+-- the call that a result reports: none, unless the action was called
 abbrev pub told_of : ActionResult → List CallRecord
 told_of ended = called_with (ended_action ended) (entered_verdict (action_result_of ended))
 
@@ -33,23 +33,23 @@ abbrev pub told_by : Option ActionResult → List CallRecord
 told_by None = []
 told_by (Some ended) = told_of ended
 
--- what the calls weigh that some results tell
+-- what the calls weigh that some results report
 abbrev pub told_weight : (CallRecord → ℕ) → List (Option ActionResult) → ℕ
 told_weight h results = sum_by (λ o. sum_by h (told_by o)) results
 
--- a part of this tally is so many of its parts, and keeps and tells just these calls
+-- a part of this tally is this number of its parts, and keeps and reports just these calls
 pub record HasParts (table : TableId) (count : ℕ) (kept told : List CallRecord) (part : HeldPart CallRecord) : Type 0 where
   pub own : part.table ≡ table
   pub counts : part.holding.parts ≡ count
   pub keeps : part.holding.kept ≡ kept
   pub tells : part.holding.told ≡ told
 
--- A cell of an action has what came of it, once that is published, and a part that tells the action's call.
+-- A cell of an action has its result, once that is published, and a part that reports the action's call.
 pub record IsCell (ms : List Meaning) (plan : PlanView) (table : TableId) (n : ℕ) (ended : Option ActionResult) (part : HeldPart CallRecord) : Type 0 where
   pub fits : IfSome ended (IsEndOf ms plan n)
   pub tells : HasParts table 1 [] (told_by ended) part
 
--- The parts of so many cells were put to a part: it tells also what these results tell.
+-- The parts of this number of cells were put to a part: it reports also what these results report.
 pub record IsGathered (count : ℕ) (results : List (Option ActionResult)) (old new : HeldPart CallRecord) : Type 0 where
   pub own : new.table ≡ old.table
   pub whole : new.holding.whole ≡ old.holding.whole

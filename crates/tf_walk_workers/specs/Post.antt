@@ -11,7 +11,7 @@ use Rattle.tf_walk_workers.specs.declared.worker.Post.{Post}
 use Rattle.tf_walk_workers.specs.Memo.{IsTrueMemo}
 
 -- A worker's seat is at the claims of its walk, its memo of the last request is true, and it has one part of the walk's tally,
--- which keeps and tells no call.
+-- which keeps and reports no call.
 pub record IsPost {N : Type 0} (ms : List Meaning) (walk : PlanView) (table : TableId) (plan : Plan) (names : List NameView) (claims : Shared) (post : Post N) : Type 0 where
   pub seat : post.seat.table ≡ claims.table
   pub memo : IfSome post.memo (IsTrueMemo ms walk plan names)

@@ -37,7 +37,7 @@ pub(crate) fn with_part(end: (ActionResult, Finished), part: Part<CallRecord>) -
     }
 }
 
-/// Calls the first provider that has the type of a request, and records the call. Returns a part that tells the call, in
+/// Calls the first provider that has the type of a request, and records the call. Returns a part that reports the call, in
 /// place of the given one.
 pub(crate) fn serve<N: WalkBrand, R: Wait>(
     rt: &R,
@@ -91,7 +91,7 @@ fn make_call<N: WalkBrand, R: Wait>(
     with_part(ended_by(recorded, asking.message), part)
 }
 
-/// Records a call, and returns a part that tells it, in place of the given one. If the journal refuses the call, this tries
+/// Records a call, and returns a part that reports it, in place of the given one. If the journal refuses the call, this tries
 /// again; the journal accepts it once all actions directly before its own are recorded.
 fn record<N: WalkBrand, R: Wait>(
     rt: &R,

@@ -71,12 +71,12 @@ impl<N: WalkBrand> Cells<N> {
         &self.cells[action]
     }
 
-    /// Publishes a result of an action, which is true of it, together with the part that tells the action's call. Returns
-    /// the part that the cell had, which tells no call.
+    /// Publishes a result of an action, which is true of it, together with the part that reports the action's call. Returns
+    /// the part that the cell had, which reports no call.
     ///
     /// # Errors
     ///
-    /// Fails with the result that isn't in the cell, and the part that tells its call, if a result was already published
+    /// Fails with the result that isn't in the cell, and the part that reports its call, if a result was already published
     /// for the action, or is being published.
     pub fn publish(
         &self,
@@ -158,7 +158,7 @@ impl<N: WalkBrand> Cells<N> {
     }
 }
 
-/// A result of an action that couldn't be published, and the part that tells the action's call.
+/// A result of an action that couldn't be published, and the part that reports the action's call.
 pub struct Unpublished {
     /// The result.
     pub ended: ActionResult,

@@ -10,7 +10,7 @@ use tf_tally::Part;
 use tf_walk_action::ActionResult;
 
 /// The content of an action's cell: the result of the action, once it is published, and a part of the walk's tally, which
-/// tells the action's call.
+/// reports the action's call.
 pub(crate) struct CellResult<N: WalkBrand> {
     pub ended: Option<ActionResult>,
     pub part: Part<CallRecord>,

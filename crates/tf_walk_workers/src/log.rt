@@ -39,7 +39,7 @@ impl<N: WalkBrand> Model for Log<N> {
         × AllByRecursion (IsOfAction N.plan.actions) l.journal.entries };
 }
 
-/// A call that was recorded, and the part that tells it.
+/// A call that was recorded, and the part that reports it.
 pub struct Logged {
     /// The call.
     pub recorded: Recorded,
@@ -47,7 +47,7 @@ pub struct Logged {
     pub part: Part<CallRecord>,
 }
 
-/// A call that wasn't recorded, and a part that tells none.
+/// A call that wasn't recorded, and a part that reports none.
 pub struct Unlogged {
     /// The call.
     pub called: Called,
@@ -85,7 +85,7 @@ impl<N: WalkBrand> Log<N> {
         (journal, keeper)
     }
 
-    /// Records a call of an action, and returns a part that tells it, in place of the given one. If the journal refuses the
+    /// Records a call of an action, and returns a part that reports it, in place of the given one. If the journal refuses the
     /// call, it is returned with the part, and nothing changes.
     pub(crate) fn record(
         &mut self,

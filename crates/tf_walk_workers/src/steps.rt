@@ -51,7 +51,7 @@ impl<'a, N: WalkBrand, R: Wait> WorkerContext<'a, N, R> {
     /// fault. Otherwise its provider is called, without the lock, and the call is recorded under the lock. All
     /// actions directly before it have ended, and no result is published for it; until both hold, this waits. `memo`
     /// is what the worker remembers for its next action, `None` at first. The given part goes into the action's cell, to
-    /// tell the action's call, and the one that was there is returned.
+    /// report the action's call, and the one that was there is returned.
     pub fn end_action(
         &self,
         providers: &[Box<dyn Provider + Sync>],
@@ -78,7 +78,7 @@ impl<'a, N: WalkBrand, R: Wait> WorkerContext<'a, N, R> {
         (finished, part)
     }
 
-    /// Returns the result of a claimed action, and a part that tells its call, in place of the given one. Waits until the
+    /// Returns the result of a claimed action, and a part that reports its call, in place of the given one. Waits until the
     /// results of all actions directly before it can be read.
     #[tactic(auto, using(crate::proofs::Recording::tells_none))]
     fn come_to_end(
@@ -123,7 +123,7 @@ impl<'a, N: WalkBrand, R: Wait> WorkerContext<'a, N, R> {
     }
 }
 
-/// Publishes the result of an action with the part that tells its call, and returns the part that its cell had. Tries again
+/// Publishes the result of an action with the part that reports its call, and returns the part that its cell had. Tries again
 /// as long as a result is already published for it.
 fn publish<N: WalkBrand, R: Wait>(
     rt: &R,

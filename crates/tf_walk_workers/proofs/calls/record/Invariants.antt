@@ -1,4 +1,4 @@
--- what is left to record is the call, and the part tells none
+-- what is left to record is the call, and the part reports none
 use Rattle.std.proofs.Common.{◌≡◌, []}
 use Rattle.tf_walk_workers.specs.Calls.{HasParts}
 use Rattle.tf_walk_workers.proofs.calls.record.Given as goal

@@ -1,4 +1,4 @@
--- what is left to publish is of the action, and true of it, and its part tells its call
+-- what is left to publish is of the action, and true of it, and its part reports its call
 use Rattle.std.proofs.Common.{[]}
 use Rattle.tf_walk_workers.specs.Calls.{HasParts, told_of}
 use Rattle.tf_walk_workers.specs.Ideal.{IsEndOf}
