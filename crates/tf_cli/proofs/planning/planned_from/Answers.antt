@@ -7,4 +7,4 @@ use Rattle.tf_cli.proofs.planning.planned_from.Goals as goal
 
 pub returns-in-Err-clause-refused : goal.returns-in-Err-clause-refused
 returns-in-Err-clause-refused g c =
-    refused-within _ (config_of c.args.inputs.configuration.config) (entries_view c.args.inputs.values.entries) (state_of c.args.inputs.prior) c.in-Err.unplanned.refused c.requires c.in-Err.ensures.refused
+    refused-within _ (config_of c.args.inputs.configuration.config) (entries_view c.args.inputs.values.entries) (state_of c.args.inputs.prior) c.in-Err.unplanned.refused c.requires.plannable c.in-Err.ensures.refused
