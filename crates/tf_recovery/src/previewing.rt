@@ -1,6 +1,6 @@
 //! Recovery for `plan`.
 
-ghost use Rattle.std.specs.Prelude.{◌≡◌, None, Ok, tt, IfErr, IfOk, IfSome, map};
+ghost use Rattle.std.specs.Prelude.{◌≡◌, None, IsOk, IfErr, IfOk, IfSome, map};
 ghost use Rattle.tf_cli_files.specs.Program.{IsFailure};
 ghost use Rattle.tf_cli_program.specs.Recovery.{ContinuesFrom};
 ghost use Rattle.tf_provider_log.specs.LogEntry.{log_entry_of};
@@ -31,7 +31,7 @@ pub fn preview<E: Write>(
     past: Option<(Past, Vec<LogEntry>)>,
     err: &mut E,
 ) -> Result<Result<(), ExitCode>, AllocError>
-    ensures none { past ≡ None → (result ≡ Ok (Ok tt)) × (given.new ≡ given.old) }
+    ensures none { past ≡ None → IsOk result × IfOk result (λ answer. IsOk answer) × (given.new ≡ given.old) }
     ensures recovered { IfOk result (λ answer. IfOk answer (λ _. IfSome past (λ log. ContinuesFrom (replayed_from (map log_entry_of log.1.items)) log.0 given.old given.new))) }
     ensures status { IfOk result (λ answer. IfErr answer IsFailure) }
 {

@@ -1,6 +1,6 @@
 //! Recovery for `apply`.
 
-ghost use Rattle.std.specs.Prelude.{◌≡◌, None, Ok, tt, IfOk, IfSome, map};
+ghost use Rattle.std.specs.Prelude.{◌≡◌, None, IsOk, IfOk, IfSome, map};
 ghost use Rattle.tf_cli_program.specs.Recovery.{ContinuesFrom, IsInspected};
 ghost use Rattle.tf_provider_log.specs.LogEntry.{log_entry_of};
 ghost use Rattle.tf_recovery.specs.Replayed.{replayed_from};
@@ -33,7 +33,7 @@ pub fn recover<O: Write, E: Write>(
     out: &mut O,
     err: &mut E,
 ) -> Result<Result<(), ExitCode>, AllocError>
-    ensures none { past ≡ None → (result ≡ Ok (Ok tt)) × (given.new ≡ given.old) }
+    ensures none { past ≡ None → IsOk result × IfOk result (λ answer. IsOk answer) × (given.new ≡ given.old) }
     ensures recovered { IfOk result (λ answer. IfOk answer (λ _. IfSome past (λ log. ContinuesFrom (replayed_from (map log_entry_of log.1.items)) log.0 given.old given.new))) }
     ensures looked { IfOk result (λ answer. IfOk answer (λ _. IfSome past (λ log. IsInspected log.0 given.old))) }
 {
