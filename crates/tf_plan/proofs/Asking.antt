@@ -33,7 +33,7 @@ use Rattle.tf_walk_action.specs.SoFar.{ResolvedSoFar}
 use Rattle.tf_walk_action.specs.declared.action_result.Faulted.{Faulted}
 use Rattle.tf_walk_action.specs.declared.prepared_call.PreparedCall.{PreparedCall}
 
--- ---- what comes of a request shows the request
+-- ---- the outcome of a request determines the request
 
 -- the result is that of a call by a request, or nobody was called
 abbrev IsCallOf : Asked → ActionResultView → Type 0
@@ -81,7 +81,7 @@ shown_fault ms why (Err w) same =
     let one : IsFaultOf why (faulted w) = subst (IsFaultOf why) same refl in
     ap Err one
 
--- if some provider has the type of a request, what comes of it shows it
+-- if some provider has the type of a request, its outcome determines it
 shown_by : (ms : List Meaning) (P : SchemaView → Type 0) (q : Asked) (other : Result Asked InstanceFaultView) (o : Option SchemaView) → schema_in q.type_name ms ≡ o → IsSomeAnd o P
     → call_of ms q ≡ comes_of ms other → other ≡ Ok q
 shown_by ms P q other None there h same = absurd h
