@@ -5,7 +5,6 @@ use Rattle.tf_state_next.specs.StateAfter.{is_same, next_serial}
 use Rattle.tf_plan_data.specs.Plan.{PlanView}
 use Rattle.tf_provider_protocol.specs.Meaning.{Meaning}
 use Rattle.tf_walk_report.specs.Report.{IsReported, IsWalked, report_of}
-use Rattle.tf_walk.specs.Run.{IsRun, is_whole}
 use Rattle.tf_walk_report.specs.declared.report.Walked.{Walked}
 use Rattle.tf_walk_report.specs.declared.report.Walked.TheVariants.{Whole, Torn}
 use Rattle.tf_state_data.specs.Equality.{state_Decides}
@@ -37,23 +36,14 @@ changed-exactly prior after changed serial is = (
 )
 
 -- what the report of a walk says
-pub reported_in : (ms : List Meaning) (plan : PlanView) (w : Walked) → IsRun ms plan w → IsReported ms plan (report_of w)
-reported_in ms plan (Torn report) walked = walked.reported
+pub reported_in : (ms : List Meaning) (plan : PlanView) (w : Walked) → IsWalked ms plan w → IsReported ms plan (report_of w)
+reported_in ms plan (Torn report) walked = absurd walked
 reported_in ms plan (Whole report) walked = walked.reported
-
--- a walk on one thread is one by any number of workers, and its report is whole
-pub walked_is_run : (ms : List Meaning) (plan : PlanView) (w : Walked) → IsWalked ms plan w → IsRun ms plan w
-walked_is_run ms plan (Whole report) walked = walked
-walked_is_run ms plan (Torn report) walked = absurd walked
-
-pub walked_is_whole : (ms : List Meaning) (plan : PlanView) (w : Walked) → IsWalked ms plan w → is_whole w ≡ true
-walked_is_whole ms plan (Whole report) walked = refl
-walked_is_whole ms plan (Torn report) walked = absurd walked
 
 pub is_carried_out : (ms : List Meaning) (plan : PlanView) (walked : Walked) (a : Applied)
     → MayStart ms plan
     → string_bytes a.plan ≡ text_in plan
-    → IsRun ms plan walked
+    → IsWalked ms plan walked
     → a.walked ≡ walked
     → IfOk a.state (λ text. string_bytes text ≡ state_text (state_of (report_of walked).state))
     → a.changed ≡ not ((state_of (report_of walked).state).serial == plan.prior.serial)
@@ -63,7 +53,7 @@ is_carried_out ms plan walked a starts shown was_walked same text changed =
     let exactly = changed-exactly plan.prior (state_of (report_of walked).state) a.changed told.state.after.serial changed in
     record {
       shown = shown;
-      walked = subst (λ (w : Walked). IsRun ms plan w) (sym same) was_walked;
+      walked = subst (λ (w : Walked). IsWalked ms plan w) (sym same) was_walked;
       valid = subst (λ (w : Walked). IsValid (state_of (report_of w).state)) (sym same) (told.valid starts.2 starts.1);
       text = subst (λ (w : Walked). IfOk a.state (λ text. string_bytes text ≡ state_text (state_of (report_of w).state))) (sym same) text;
       changed = subst (λ (w : Walked). (a.changed ≡ false) ↔ (state_of (report_of w).state ≡ plan.prior)) (sym same) exactly;

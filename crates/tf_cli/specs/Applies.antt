@@ -8,9 +8,8 @@ use Rattle.tf_plan_data.specs.Plan.{PlanView}
 use Rattle.tf_plan_text.specs.Text.{plan_text}
 use Rattle.tf_provider_protocol.specs.Meaning.{Meaning}
 use Rattle.tf_walk_action.specs.Words.{AreServed}
-use Rattle.tf_walk_report.specs.Report.{report_of}
+use Rattle.tf_walk_report.specs.Report.{IsWalked, report_of}
 use Rattle.tf_walk_report.specs.Savable.{HasNames}
-use Rattle.tf_walk.specs.Run.{IsRun}
 use Rattle.tf_state_data.specs.State.{StateView, state_of}
 use Rattle.tf_state.specs.Text.{state_text}
 use Rattle.tf_state.specs.Valid.{IsValid}
@@ -43,12 +42,11 @@ MayStart ms plan = AreServed ms plan.actions × IsValid plan.prior × HasNames p
 abbrev pub state_in : Applied → StateView
 state_in a = state_of (report_of a.walked).state
 
--- The answer for a plan: its text; the report of a walk that carries it out, whole or with a journal that is withheld; the
--- text of the state after, if there was memory for it; and whether that state isn't the prior one. The state after is
--- valid, so its text reads back as it.
+-- The answer for a plan: its text; the report of a walk that carries it out, with its journal; the text of the state after, if
+-- there was memory for it; and whether that state isn't the prior one. The state after is valid, so its text reads back as it.
 pub record IsCarriedOut (ms : List Meaning) (plan : PlanView) (a : Applied) : Type 0 where
   pub shown : string_bytes a.plan ≡ text_in plan
-  pub walked : IsRun ms plan a.walked
+  pub walked : IsWalked ms plan a.walked
   pub valid : IsValid (state_in a)
   pub text : IfOk a.state (λ text. string_bytes text ≡ state_text (state_in a))
   pub changed : (a.changed ≡ false) ↔ (state_in a ≡ plan.prior)

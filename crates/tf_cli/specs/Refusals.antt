@@ -9,7 +9,7 @@ use Rattle.tf_plan_planner.specs.declared.refused.Refused.TheVariants.{NoMemory,
 use Rattle.tf_provider_protocol.specs.Meaning.{Meaning}
 use Rattle.tf_plan_data.specs.Plan.{PlanView}
 use Rattle.tf_config_refusal.specs.Refusal.{RefusalView, no_memory, refusal_of, workers}
-use Rattle.tf_walk.specs.Run.{are_workers}
+use Rattle.tf_walk.specs.Workers.{are_workers}
 use Rattle.tf_state_data.specs.State.{StateView}
 use Rattle.tf_value_data.specs.Tree.{Entries}
 use Rattle.tf_cli.specs.Applies.{IsPlanOf}

@@ -8,7 +8,7 @@ ghost use Rattle.tf_plan_planner.specs.Refused.{Tells};
 ghost use Rattle.tf_plan_planner.specs.declared.refused.Refused.TheVariants.{NoMemory};
 ghost use Rattle.tf_walk_action.specs.Words.{plan_of};
 ghost use Rattle.tf_walk_report.specs.Report.{report_of};
-ghost use Rattle.tf_walk.specs.Run.{are_workers, is_whole};
+ghost use Rattle.tf_walk.specs.Workers.{are_workers};
 ghost use Rattle.tf_state_data.specs.State.{state_of};
 ghost use Rattle.tf_state.specs.Text.{state_text};
 
@@ -50,7 +50,6 @@ pub fn apply_text<R: Threads + Wait + Sync>(
 ) -> Result<Applied, Refused>
     ensures applied { IfOk result (IsApplied (map meaning providers.now) (the_texts config.now (option_map (λ s. s.now) vars.entry) (option_map (λ s. s.now) state.entry)) lineage.now) }
     ensures workers { IfOk result (λ _. are_workers workers ≡ true) }
-    ensures whole { IfOk result (λ answer. is_whole answer.walked ≡ true) }
     ensures refused { IfErr result (Tells (AreApplyRefusals (map meaning providers.now) (the_texts config.now (option_map (λ s. s.now) vars.entry) (option_map (λ s. s.now) state.entry)) lineage.now workers)) }
 {
     if workers == 1 {
@@ -86,7 +85,6 @@ pub fn apply_one(
     stop: &Stop,
 ) -> Result<Applied, Refused>
     ensures applied { IfOk result (IsApplied (map meaning providers.now) (the_texts config.now (option_map (λ s. s.now) vars.entry) (option_map (λ s. s.now) state.entry)) lineage.now) }
-    ensures whole { IfOk result (λ answer. is_whole answer.walked ≡ true) }
     ensures refused { IfErr result (Tells (AreRefusals (map meaning providers.now) (the_texts config.now (option_map (λ s. s.now) vars.entry) (option_map (λ s. s.now) state.entry)))) }
 {
     blocks_have_names();
@@ -115,7 +113,6 @@ fn carry_out<R: Threads + Wait + Sync>(
     requires starts { MayStart (map meaning providers.now) (plan_of planned.now) }
     ensures carried_out { IfOk result (IsCarriedOut (map meaning providers.now) (plan_of planned.now)) }
     ensures workers { IfOk result (λ _. are_workers workers ≡ true) }
-    ensures whole { IfOk result (λ answer. is_whole answer.walked ≡ true) }
     ensures refused { IfErr result (Tells (IsNumberRefused workers)) }
 {
     let text = shown(alloc, planned)?;
@@ -134,7 +131,6 @@ fn carry_out_one(
 ) -> Result<Applied, Refused>
     requires starts { MayStart (map meaning providers.now) (plan_of planned.now) }
     ensures carried_out { IfOk result (IsCarriedOut (map meaning providers.now) (plan_of planned.now)) }
-    ensures whole { IfOk result (λ answer. is_whole answer.walked ≡ true) }
     ensures refused { IfErr result (λ refused. refused ≡ NoMemory) }
 {
     let text = shown(alloc, planned)?;

@@ -7,7 +7,7 @@ use Rattle.tf_cli_inputs.specs.Texts.{Texts, the_texts}
 use Rattle.tf_plan_planner.specs.Refused.{Tells}
 use Rattle.tf_plan_planner.specs.declared.refused.Refused.{Refused}
 use Rattle.tf_provider_protocol.specs.Meaning.{Meaning}
-use Rattle.tf_walk.specs.Run.{are_workers}
+use Rattle.tf_walk.specs.Workers.{are_workers}
 use Rattle.tf_cli.specs.Applies.{IsApplied, IsPlanText}
 use Rattle.tf_cli_text.specs.Shown.{to_write}
 use Rattle.tf_cli_files.specs.Kept.{EndsKept}

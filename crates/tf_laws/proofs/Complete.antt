@@ -139,7 +139,6 @@ success_complete ms texts lineage a is status =
     let ended = success (cant_write a) (all_good (report_of a.walked) && not (is_torn a.walked)) status in
     let good : all_good (report_of a.walked) ≡ true = and-first (all_good (report_of a.walked)) (not (is_torn a.walked)) ended.1 in
     record {
-      whole = not_false (is_torn a.walked) (and-second (all_good (report_of a.walked)) (not (is_torn a.walked)) ended.1);
       good = good_outcomes (report_of a.walked).outcomes.items (and-first (list_all is_good_outcome (report_of a.walked).outcomes.items) (is_empty (report_of a.walked).diagnostics.items) good);
       valued = λ told. each_valued ms is.plan (report_of a.walked) (plan_ranked ms texts lineage is.plan is.planned) told good;
     }

@@ -7,7 +7,7 @@ use Rattle.tf_config_refusal.specs.Check.{AllMet}
 use Rattle.tf_laws.specs.Plans.{PlannedOrRefused}
 use Rattle.tf_provider_protocol.specs.Meaning.{Meaning}
 use Rattle.tf_config_refusal.specs.Refusal.{workers}
-use Rattle.tf_walk.specs.Run.{are_workers}
+use Rattle.tf_walk.specs.Workers.{are_workers}
 use Rattle.tf_laws.proofs.DecidedChecks.{IsDemandDecided, IsTemplateDecided, all_decided, demand_decided}
 use Rattle.tf_laws.proofs.ToldOf.{Resolved, texts_told}
 use Rattle.tf_laws.specs.OneOfTwo.{AppliesHavePlanOrRefusals, AreRead, AreToldOf, HavePlan, HaveRefusals, PlansAreTold, ReadingsAreTold, TemplatesAreTold, TextsAreReadOrRefused, TextsHavePlanOrRefusals}

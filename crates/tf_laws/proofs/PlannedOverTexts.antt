@@ -3,7 +3,6 @@ use Rattle.std.proofs.Common.{◌≡◌, ◌∙◌, ℕ, Bool, false, List, [], 
 use Rattle.std.specs.List.{AllByRecursion}
 use Rattle.tf_plan_data.specs.Action.{ActionView}
 use Rattle.tf_cli.specs.Applies.{IsApplied, IsPlanOf, state_in}
-use Rattle.tf_cli_text.specs.Shown.{is_torn}
 use Rattle.tf_cli_text.specs.declared.applied.Applied.{Applied}
 use Rattle.tf_config_json.specs.Laws.{BlocksAreInOrder, StandsForOne}
 use Rattle.tf_config_data.specs.Config.{ConfigView}
@@ -21,10 +20,9 @@ use Rattle.tf_plan_data.specs.Plan.{PlanView, plan_names}
 use Rattle.tf_plan_text.specs.Text.{plan_text}
 use Rattle.tf_provider_protocol.specs.Meaning.{Meaning}
 use Rattle.tf_provider_protocol.specs.declared.request.Op.{Op}
-use Rattle.tf_walk_report.specs.Report.{IsReported, report_of}
+use Rattle.tf_walk_report.specs.Report.{IsReported, IsWalked, report_of}
 use Rattle.tf_walk_report.specs.declared.report.Walked.{Walked}
 use Rattle.tf_walk_report.specs.declared.report.Walked.TheVariants.{Whole, Torn}
-use Rattle.tf_walk.specs.Run.{IsRun}
 use Rattle.tf_state.specs.Laws.{EmptyIsValid, ReadIsValid}
 use Rattle.tf_state_data.specs.Resource.{ResourceView}
 use Rattle.tf_state_data.specs.State.{StateView}
@@ -65,8 +63,8 @@ module _ (ms : List Meaning) (texts : Texts) (lineage : List ℕ) (plan : PlanVi
 
 -- ---- what a report tells
 
-pub reported : (ms : List Meaning) (plan : PlanView) (w : Walked) → IsRun ms plan w → IsReported ms plan (report_of w)
-reported ms plan (Torn report) walked = walked.reported
+pub reported : (ms : List Meaning) (plan : PlanView) (w : Walked) → IsWalked ms plan w → IsReported ms plan (report_of w)
+reported ms plan (Torn report) walked = absurd walked
 reported ms plan (Whole report) walked = walked.reported
 
 -- an entry of a journal is of an action
@@ -75,10 +73,10 @@ no_entry [] [] none of_actions = refl
 no_entry [] (e ∷ entries) none of_actions = absurd (let no : ◌≡◌ {A = Option Op} None (Some e.op) = of_actions.0 in cc)
 no_entry (a ∷ actions) entries none of_actions = absurd (cc)
 
--- so the journal of a plan without actions is empty, where it isn't withheld
-pub no_entries : (ms : List Meaning) (plan : PlanView) (w : Walked) → IsRun ms plan w → plan.actions ≡ [] → is_torn w ≡ false → (report_of w).journal.entries ≡ []
-no_entries ms plan (Torn report) walked none whole = absurd (cc)
-no_entries ms plan (Whole report) walked none whole = no_entry plan.actions report.journal.entries none walked.journal.ops
+-- so the journal of a plan without actions is empty
+pub no_entries : (ms : List Meaning) (plan : PlanView) (w : Walked) → IsWalked ms plan w → plan.actions ≡ [] → (report_of w).journal.entries ≡ []
+no_entries ms plan (Torn report) walked none = absurd walked
+no_entries ms plan (Whole report) walked none = no_entry plan.actions report.journal.entries none walked.journal.ops
 
 -- ---- nothing is planned
 

@@ -9,7 +9,7 @@ use Rattle.tf_cli_inputs.specs.Texts.{ReadAs, Texts}
 use Rattle.tf_plan_data.specs.Plan.{PlanView}
 use Rattle.tf_provider_protocol.specs.Meaning.{Meaning}
 use Rattle.tf_config_refusal.specs.Refusal.{RefusalView, no_memory}
-use Rattle.tf_walk.specs.Run.{are_workers}
+use Rattle.tf_walk.specs.Workers.{are_workers}
 use Rattle.tf_state_data.specs.State.{StateView}
 use Rattle.tf_expr_syntax.specs.TemplateTree.{Woven}
 use Rattle.tf_value_data.specs.Tree.{Entries}

@@ -7,7 +7,7 @@ use Rattle.tf_config_address.specs.ResourceAddr.{ResourceAddrView}
 use Rattle.tf_config_address.specs.ObjectId.{ObjectIdView}
 use Rattle.tf_cli.specs.Applies.{IsApplied, IsPlanText, state_in}
 use Rattle.tf_cli.specs.Refusals.{AreRefusals}
-use Rattle.tf_cli_text.specs.Shown.{applied_status, is_torn}
+use Rattle.tf_cli_text.specs.Shown.{applied_status}
 use Rattle.tf_cli_text.specs.declared.applied.Applied.{Applied}
 use Rattle.tf_config_data.specs.Config.{ConfigView}
 use Rattle.tf_config_data.specs.Names.{names_of}
@@ -58,12 +58,11 @@ NothingIsPlannedAgain =
     → IsPlanText ms (over texts (string_bytes saved)) text → text ≡ no_changes
 
 -- A second apply did nothing after a first one. Its plan's text is `No changes.` in a line; its report has no outcome, and its
--- journal, if it isn't withheld, has no entry. Each record stays, except for its dependencies and its flag
--- `create_before_destroy`, which are updated.
+-- journal has no entry. Each record stays, except for its dependencies and its flag `create_before_destroy`, which are updated.
 pub record DidNothing (first second : Applied) : Type 0 where
   pub shown : string_bytes second.plan ≡ no_changes
   pub no_outcomes : (report_of second.walked).outcomes.items ≡ []
-  pub no_calls : is_torn second.walked ≡ false → (report_of second.walked).journal.entries ≡ []
+  pub no_calls : (report_of second.walked).journal.entries ≡ []
   pub kept : (addr : ResourceAddrView) (id : ObjectIdView) → IsRenewed (record_in addr id (state_in first)) (record_in addr id (state_in second))
 
 -- An apply over that text, if it returns an answer, does nothing.

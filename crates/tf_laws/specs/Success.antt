@@ -4,7 +4,7 @@ use Rattle.std.specs.List.{AllByRecursion}
 use Rattle.std.specs.declared.alloc.Global.{Global}
 use Rattle.tf_laws.specs.ReapplyTexts.{HaveSchemas, WentWell, over}
 use Rattle.tf_cli.specs.Applies.{IsApplied, state_in}
-use Rattle.tf_cli_text.specs.Shown.{applied_status, is_torn}
+use Rattle.tf_cli_text.specs.Shown.{applied_status}
 use Rattle.tf_cli_text.specs.declared.applied.Applied.{Applied}
 use Rattle.tf_laws.specs.Reapply.{IsValued}
 use Rattle.tf_laws.specs.Twice.{HasToldSerial, without_flags}
@@ -13,9 +13,8 @@ use Rattle.tf_plan_data.specs.Plan.{PlanView}
 use Rattle.tf_provider_protocol.specs.Meaning.{Meaning}
 use Rattle.tf_walk_report.specs.Report.{IsReported, report_of}
 
--- An apply did everything that was planned: its journal isn't withheld, each action is good, and each output has a value.
+-- An apply did everything that was planned: each action is good, and each output has a value.
 pub record IsComplete (ms : List Meaning) (plan : PlanView) (a : Applied) : Type 0 where
-  pub whole : is_torn a.walked ≡ false
   pub good : WentWell a
   pub valued : (told : IsReported ms plan (report_of a.walked)) → AllByRecursion IsValued told.outputs
 

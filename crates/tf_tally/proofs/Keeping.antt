@@ -6,7 +6,7 @@ use mathlib.Core.Option.{some, some-injective, some-ne-none}
 use lib.ListN.{get_elem?}
 use Rattle.atomic_table.proofs.Lists.{at_set, at_snoc, set_else, set_again}
 use Rattle.tf_tally.specs.declared.holding.Holding.{Holding}
-use Rattle.tf_tally.specs.Holdings.{staying, going, merged, added, blank, parts_of, kept_weight, told_weight, IsSound, IsKept, IsBalanced}
+use Rattle.tf_tally.specs.Holdings.{staying, going, merged, added, blank, parts_of, kept_weight, reported_weight, IsSound, IsKept, IsBalanced}
 use Rattle.tf_tally.specs.Laws.{KnowsAll}
 
 module _ {E : Type 0} where
@@ -57,8 +57,8 @@ module _ {E : Type 0} where
               let b = kept.balanced h in
               omega (
                 arith,
-                total_set (told_weight h) views k v (staying v) at,
-                sum_by_push (told_weight h) (set views k (staying v)) (going v),
+                total_set (reported_weight h) views k v (staying v) at,
+                sum_by_push (reported_weight h) (set views k (staying v)) (going v),
                 total_set (kept_weight h) views k v (staying v) at,
                 sum_by_push (kept_weight h) (set views k (staying v)) (going v),
               );
@@ -78,8 +78,8 @@ module _ {E : Type 0} where
               let b = kept.balanced h in
               omega (
                 arith,
-                total_set (told_weight h) views k v (added x v) at,
-                sum_by_push h v.told x,
+                total_set (reported_weight h) views k v (added x v) at,
+                sum_by_push h v.reported x,
                 total_set (kept_weight h) views k v (added x v) at,
                 sum_by_push h v.kept x,
               );
@@ -97,9 +97,9 @@ module _ {E : Type 0} where
               let b = kept.balanced h in
               omega (
                 arith,
-                total_set (told_weight h) views k v (merged v w) at,
-                total_set (told_weight h) both j w blank there,
-                sum_by-append h v.told w.told,
+                total_set (reported_weight h) views k v (merged v w) at,
+                total_set (reported_weight h) both j w blank there,
+                sum_by-append h v.reported w.reported,
                 total_set (kept_weight h) views k v (merged v w) at,
                 total_set (kept_weight h) both j w blank there,
                 sum_by-append h v.kept w.kept,
@@ -123,13 +123,13 @@ module _ {E : Type 0} where
           let p = kept.parts in
           omega (arith, total_set parts_of views k v blank at)
 
-      other_none : (j : ℕ) (u : Holding E) → get_elem? others j ≡ some u → (u.parts ≡ 0) × (u.kept ≡ []) × (u.told ≡ [])
+      other_none : (j : ℕ) (u : Holding E) → get_elem? others j ≡ some u → (u.parts ≡ 0) × (u.kept ≡ []) × (u.reported ≡ [])
       other_none j u there =
           let none : u.parts ≡ 0 = omega (arith, at_most parts_of others j u there, no_parts) in
           let sound : IsSound whole u = sound_set blank (record { none = λ _. (refl, refl); some_part = λ e. absurd (omega arith) }) j u there in
           let both = sound.none none in (none, both.0, both.1)
 
-      weightless : (f : Holding E → ℕ) → f blank ≡ 0 → ((u : Holding E) → (u.kept ≡ []) → (u.told ≡ []) → f u ≡ 0) → sum_by f views ≡ f v
+      weightless : (f : Holding E → ℕ) → f blank ≡ 0 → ((u : Holding E) → (u.kept ≡ []) → (u.reported ≡ []) → f u ≡ 0) → sum_by f views ≡ f v
       weightless f zero_blank zero_empty =
           let rest = none_of f others (λ j u there. let n = other_none j u there in zero_empty u n.1 n.2) in
           omega (arith, total_set f views k v blank at)
@@ -137,8 +137,8 @@ module _ {E : Type 0} where
       pub all_balanced : IsBalanced v
       all_balanced h =
           let b = kept.balanced h in
-          let t = weightless (told_weight h) refl (λ u none_kept none_told. ap (λ l. sum_by h l) none_told) in
-          let s = weightless (kept_weight h) refl (λ u none_kept none_told. ap (λ l. sum_by h l) none_kept) in
+          let t = weightless (reported_weight h) refl (λ u none_kept none_reported. ap (λ l. sum_by h l) none_reported) in
+          let s = weightless (kept_weight h) refl (λ u none_kept none_reported. ap (λ l. sum_by h l) none_kept) in
           omega arith
 
       pub knows_all : KnowsAll views k v

@@ -44,6 +44,6 @@ count_all (x ∷ xs) =
 
 pub balanced_agree : (E : Type 0) → BalancedAgree E
 balanced_agree E v b = record {
-  in_all = sym (count_all v.told) ∙ b (λ _. 1) ∙ count_all v.kept;
+  in_all = sym (count_all v.reported) ∙ b (λ _. 1) ∙ count_all v.kept;
   passing = λ p. b (λ x. cond (p x) 1 0);
 }

@@ -12,5 +12,5 @@ pub struct Holding<E> {
     /// The entries that are kept here, in the order in which they were added.
     pub kept: LinkedList<E>,
     /// The entries that are reported here, in the order in which they were added.
-    pub told: LinkedList<E>,
+    pub reported: LinkedList<E>,
 }

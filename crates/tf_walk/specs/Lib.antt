@@ -1,4 +1,4 @@
 pub mod Fitting
 pub mod Prepared
 pub mod PreparedMany
-pub mod Run
+pub mod Workers

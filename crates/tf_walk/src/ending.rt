@@ -1,13 +1,12 @@
 //! The end of a walk: the report on all actions, with the journal of its calls.
 
-ghost use Rattle.std.specs.Prelude.{◌≡◌, ◌+◌, List, [], None, map, replicate, true};
+ghost use Rattle.std.specs.Prelude.{◌≡◌, ◌+◌, List, [], None, map, replicate};
 ghost use Rattle.std.specs.List.{AllByRecursion};
 ghost use Rattle.tf_walk_action.specs.Journal.{IsOfAction};
 ghost use Rattle.tf_walk_workers.specs.Calls.{HasParts, records_of};
 ghost use Rattle.tf_walk_action.specs.Words.{FitsTogether, names_in, plan_names, plan_of};
 ghost use Rattle.tf_walk_report.specs.Reserved.{AreReserved};
-ghost use Rattle.tf_walk_report.specs.Report.{report_of};
-ghost use Rattle.tf_walk.specs.Run.{IsRun, is_whole};
+ghost use Rattle.tf_walk_report.specs.Report.{IsWalked, report_of};
 
 use crate::fitting::demand_fit;
 use std::alloc::Global;
@@ -48,8 +47,7 @@ pub(crate) fn report_walk<N: WalkBrand, R: Wait>(
     requires cells { cells ≡ plan.now.order.nodes }
     requires results { results.items ≡ replicate plan.now.order.nodes None }
     requires journal { journal.graph ≡ plan.now.order }
-    ensures run { IsRun (map meaning providers.now) (plan_of plan.now) result }
-    ensures whole { is_whole result ≡ true }
+    ensures walked { IsWalked (map meaning providers.now) (plan_of plan.now) result }
     ensures journal { (report_of result).journal.graph ≡ plan.now.order }
 {
     cells.take_out(tally, &mut part, &mut results);

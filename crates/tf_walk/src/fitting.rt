@@ -8,22 +8,21 @@ ghost use Rattle.tf_walk_action.specs.Outcome.{done_at, is_good};
 ghost use Rattle.tf_walk.specs.Fitting.{IsSkippedRightly, AreSkippedRightly};
 
 use std::sync::Wait;
-use std::sync::atomic::AtomicU64;
+use std::thread;
 use tf_graph::Graph;
 use tf_walk_action::ActionResult;
 
-/// Returns if each action is skipped exactly if one directly before it isn't good. No report would be true of results that
-/// don't fit together, so it sleeps forever then.
+/// Returns once each action is skipped exactly if one directly before it isn't good. No report would be true of results that
+/// don't fit together, so it reads them again as long as they don't.
 pub(crate) fn demand_fit<R: Wait>(rt: &R, order: &Graph, results: &[Option<ActionResult>])
     requires { length results.now ≡ order.now.nodes }
     ensures { AreSkippedRightly order.now (action_results_of results.now) }
 {
-    if all_fit(order, results) {
-        return;
-    }
-    let never = AtomicU64::new(0);
     for _ in rt.forever() {
-        never.park(rt, 0);
+        if all_fit(order, results) {
+            return;
+        }
+        thread::yield_now();
     }
     unreachable!()
 }

@@ -3,10 +3,10 @@
 ghost use Rattle.std.specs.Prelude.{◌≡◌, ◌+◌, ◌<◌, List, [], map, true, IfOk, MatchBool, MatchResult};
 ghost use Rattle.tf_walk_action.specs.Words.{action_of, AreServed, FitsTogether, plan_of};
 ghost use Rattle.tf_config_refusal.specs.Refusal.{no_memory, refusal_of, workers as wrong_workers};
-ghost use Rattle.tf_walk_report.specs.Report.{report_of};
+ghost use Rattle.tf_walk_report.specs.Report.{IsWalked, report_of};
 ghost use Rattle.tf_walk_workers.specs.Calls.{HasParts};
 ghost use Rattle.tf_walk.specs.PreparedMany.{IsPrepared};
-ghost use Rattle.tf_walk.specs.Run.{IsRun, are_workers, is_whole};
+ghost use Rattle.tf_walk.specs.Workers.{are_workers};
 
 use crate::ending::report_walk;
 use crate::prepared_many::{PreparedWalk, Team, prepare};
@@ -48,8 +48,7 @@ pub fn run<R: Threads + Wait + Sync>(
     stop: &Stop,
 ) -> Result<Walked, Refusal>
     requires served { AreServed (map meaning providers.now) (map action_of plan.now.actions.items) }
-    ensures walked { IfOk result (IsRun (map meaning providers.now) (plan_of plan.now)) }
-    ensures whole { IfOk result (λ walked. is_whole walked ≡ true) }
+    ensures walked { IfOk result (IsWalked (map meaning providers.now) (plan_of plan.now)) }
     ensures journal { IfOk result (λ walked. (report_of walked).journal.graph ≡ plan.now.order) }
     ensures refused { MatchResult result
         (λ _. are_workers workers ≡ true)
@@ -79,8 +78,7 @@ pub fn run_and_close<R: Threads + Wait + Sync>(
     stop: &Stop,
 ) -> Result<(Walked, bool), Refusal>
     requires served { AreServed (map meaning providers.now) (map action_of plan.now.actions.items) }
-    ensures walked { IfOk result (λ ended. IsRun (map meaning providers.now) (plan_of plan.now) ended.0) }
-    ensures whole { IfOk result (λ ended. is_whole ended.0 ≡ true) }
+    ensures walked { IfOk result (λ ended. IsWalked (map meaning providers.now) (plan_of plan.now) ended.0) }
     ensures journal { IfOk result (λ ended. (report_of ended.0).journal.graph ≡ plan.now.order) }
     ensures refused { MatchResult result
         (λ _. are_workers workers ≡ true)
@@ -128,8 +126,7 @@ fn run_as<N: WalkBrand + Send + Sync, R: Threads + Wait + Sync>(
     requires meanings { N.meanings ≡ map meaning providers.now }
     requires plan { N.plan ≡ plan_of plan.now }
     requires served { AreServed (map meaning providers.now) (map action_of plan.now.actions.items) }
-    ensures walked { IfOk result (λ ended. IsRun (map meaning providers.now) (plan_of plan.now) ended.0) }
-    ensures whole { IfOk result (λ ended. is_whole ended.0 ≡ true) }
+    ensures walked { IfOk result (λ ended. IsWalked (map meaning providers.now) (plan_of plan.now) ended.0) }
     ensures journal { IfOk result (λ ended. (report_of ended.0).journal.graph ≡ plan.now.order) }
 {
     let prepared = prepare::<N>(alloc, plan, team, tally, &mut part)?;
@@ -158,8 +155,7 @@ fn carry_out<N: WalkBrand + Send + Sync, R: Threads + Wait + Sync>(
     requires plan { N.plan ≡ plan_of plan.now }
     requires served { AreServed (map meaning providers.now) (map action_of plan.now.actions.items) }
     requires prepared { IsPrepared N.table team plan.now prepared }
-    ensures walked { IsRun (map meaning providers.now) (plan_of plan.now) result.0 }
-    ensures whole { is_whole result.0 ≡ true }
+    ensures walked { IsWalked (map meaning providers.now) (plan_of plan.now) result.0 }
     ensures journal { (report_of result.0).journal.graph ≡ plan.now.order }
 {
     let PreparedWalk {

@@ -16,7 +16,7 @@ module _ (table : TableId) where
         own = own;
         counts = ap (λ (v : H). v.parts) is ∙ ap (λ (k : ℕ). k - 1) has.counts;
         keeps = ap (λ (v : H). v.kept) is ∙ has.keeps;
-        tells = ap (λ (v : H). v.told) is;
+        reports = ap (λ (v : H). v.reported) is;
       }
 
   pub goes : (n : ℕ) (ks ts : List CallRecord) (p new : HeldPart CallRecord) → HasParts table n ks ts p → new.table ≡ table → new.holding ≡ going p.holding → HasParts table 1 [] ts new
@@ -25,7 +25,7 @@ module _ (table : TableId) where
         own = own;
         counts = ap (λ (v : H). v.parts) is;
         keeps = ap (λ (v : H). v.kept) is;
-        tells = ap (λ (v : H). v.told) is ∙ has.tells;
+        reports = ap (λ (v : H). v.reported) is ∙ has.reports;
       }
 
   pub merges : (m n : ℕ) (ks ls ts us : List CallRecord) (p q new : HeldPart CallRecord) → HasParts table m ks ts p → HasParts table n ls us q → new.table ≡ table → new.holding ≡ merged p.holding q.holding
@@ -35,7 +35,7 @@ module _ (table : TableId) where
         own = own;
         counts = ap (λ (v : H). v.parts) is ∙ ap₂ (λ (a b : ℕ). a + b) has.counts other.counts;
         keeps = ap (λ (v : H). v.kept) is ∙ ap₂ (λ (a b : List CallRecord). a ++ b) has.keeps other.keeps;
-        tells = ap (λ (v : H). v.told) is ∙ ap₂ (λ (a b : List CallRecord). a ++ b) has.tells other.tells;
+        reports = ap (λ (v : H). v.reported) is ∙ ap₂ (λ (a b : List CallRecord). a ++ b) has.reports other.reports;
       }
 
   pub adds : (n : ℕ) (ks ts : List CallRecord) (x : CallRecord) (p new : HeldPart CallRecord) → HasParts table n ks ts p → new.table ≡ table → new.holding ≡ added x p.holding → HasParts table n (ks ++ x ∷ []) (ts ++ x ∷ []) new
@@ -44,10 +44,10 @@ module _ (table : TableId) where
         own = own;
         counts = ap (λ (v : H). v.parts) is ∙ has.counts;
         keeps = ap (λ (v : H). v.kept) is ∙ ap (λ (a : List CallRecord). a ++ x ∷ []) has.keeps;
-        tells = ap (λ (v : H). v.told) is ∙ ap (λ (a : List CallRecord). a ++ x ∷ []) has.tells;
+        reports = ap (λ (v : H). v.reported) is ∙ ap (λ (a : List CallRecord). a ++ x ∷ []) has.reports;
       }
 
   -- a part that is known in other words
   pub said : (m n : ℕ) (ks ls ts us : List CallRecord) (p : HeldPart CallRecord) → m ≡ n → ks ≡ ls → ts ≡ us → HasParts table m ks ts p → HasParts table n ls us p
   said m n ks ls ts us p a b c has =
-      record { own = has.own; counts = has.counts ∙ a; keeps = has.keeps ∙ b; tells = has.tells ∙ c }
+      record { own = has.own; counts = has.counts ∙ a; keeps = has.keeps ∙ b; reports = has.reports ∙ c }

@@ -13,7 +13,7 @@ use Rattle.tf_walk_action.specs.declared.action_result.ActionResult.{ActionResul
 use Rattle.tf_graph.specs.Order.{IsInOrder}
 use Rattle.tf_provider.specs.Entries.{actions_of}
 use Rattle.tf_provider.specs.declared.journal.Entry.{Entry}
-use Rattle.tf_walk_workers.specs.Calls.{called_with, records_of, told_by, told_weight}
+use Rattle.tf_walk_workers.specs.Calls.{called_with, records_of, reported_in, reported_weight}
 use Rattle.tf_walk_workers.specs.declared.call_record.CallRecord.{CallRecord}
 use Rattle.tf_walk_workers.proofs.Taking.{one_done}
 
@@ -63,42 +63,42 @@ other_called : (n m : ℕ) (o : Option Verdict) → m ≢ n → sum_by (by_verdi
 other_called n m None ne = refl
 other_called n m (Some v) ne = rw (ne_eqb m n ne) refl
 
-module _ {X : Type 0} (tells : X → List CallRecord) (seen : X → Option Verdict) (d : X) (none : seen d ≡ None) where
+module _ {X : Type 0} (reports : X → List CallRecord) (seen : X → Option Verdict) (d : X) (none : seen d ≡ None) where
   abbrev Own : ℕ → List X → Type 0
-  Own k xs = (i : ℕ) → i < length xs → tells (get_or xs i d) ≡ called_with (k + i) (seen (get_or xs i d))
+  Own k xs = (i : ℕ) → i < length xs → reports (get_or xs i d) ≡ called_with (k + i) (seen (get_or xs i d))
 
   own_rest : (k : ℕ) (x : X) (xs : List X) → Own k (x ∷ xs) → Own (suc k) xs
   own_rest k x xs own i below =
       let far : k + suc i ≡ suc k + i = omega arith in
       own (suc i) (omega arith) ∙ ap (λ (m : ℕ). called_with m (seen (get_or xs i d))) far
 
-  own_here : (k : ℕ) (x : X) (xs : List X) → Own k (x ∷ xs) → tells x ≡ called_with k (seen x)
+  own_here : (k : ℕ) (x : X) (xs : List X) → Own k (x ∷ xs) → reports x ≡ called_with k (seen x)
   own_here k x xs own =
       let here : k + 0 ≡ k = omega arith in
       own 0 (omega arith) ∙ ap (λ (m : ℕ). called_with m (seen x)) here
 
-  past : (n k : ℕ) (xs : List X) → n < k → Own k xs → sum_by (λ x. sum_by (by_verdict n) (tells x)) xs ≡ 0
+  past : (n k : ℕ) (xs : List X) → n < k → Own k xs → sum_by (λ x. sum_by (by_verdict n) (reports x)) xs ≡ 0
   past n k [] lt own = refl
   past n k (x ∷ xs) lt own =
       let r = past n (suc k) xs (omega arith) (own_rest k x xs own) in
-      let here : sum_by (by_verdict n) (tells x) ≡ 0 = ap (sum_by (by_verdict n)) (own_here k x xs own) ∙ other_called n k (seen x) (λ e. omega arith) in
-      omega (arith, sum_by-cons (λ y. sum_by (by_verdict n) (tells y)) x xs)
+      let here : sum_by (by_verdict n) (reports x) ≡ 0 = ap (sum_by (by_verdict n)) (own_here k x xs own) ∙ other_called n k (seen x) (λ e. omega arith) in
+      omega (arith, sum_by-cons (λ y. sum_by (by_verdict n) (reports y)) x xs)
 
-  pub told : (k i : ℕ) (xs : List X) → Own k xs → sum_by (λ x. sum_by (by_verdict (k + i)) (tells x)) xs ≡ code_of (seen (get_or xs i d))
-  told k i [] own = sym (ap code_of none)
-  told k zero (x ∷ xs) own =
+  pub reported : (k i : ℕ) (xs : List X) → Own k xs → sum_by (λ x. sum_by (by_verdict (k + i)) (reports x)) xs ≡ code_of (seen (get_or xs i d))
+  reported k i [] own = sym (ap code_of none)
+  reported k zero (x ∷ xs) own =
       let at : k + 0 ≡ k = omega arith in
-      let r : sum_by (λ y. sum_by (by_verdict k) (tells y)) xs ≡ 0 = past k (suc k) xs (omega arith) (own_rest k x xs own) in
-      let here : sum_by (by_verdict k) (tells x) ≡ code_of (seen x) = ap (sum_by (by_verdict k)) (own_here k x xs own) ∙ one_called k (seen x) in
-      let all : sum_by (λ y. sum_by (by_verdict k) (tells y)) (x ∷ xs) ≡ code_of (seen x) = omega (arith, sum_by-cons (λ y. sum_by (by_verdict k) (tells y)) x xs) in
-      ap (λ (m : ℕ). sum_by (λ y. sum_by (by_verdict m) (tells y)) (x ∷ xs)) at ∙ all
-  told k (suc i) (x ∷ xs) own =
+      let r : sum_by (λ y. sum_by (by_verdict k) (reports y)) xs ≡ 0 = past k (suc k) xs (omega arith) (own_rest k x xs own) in
+      let here : sum_by (by_verdict k) (reports x) ≡ code_of (seen x) = ap (sum_by (by_verdict k)) (own_here k x xs own) ∙ one_called k (seen x) in
+      let all : sum_by (λ y. sum_by (by_verdict k) (reports y)) (x ∷ xs) ≡ code_of (seen x) = omega (arith, sum_by-cons (λ y. sum_by (by_verdict k) (reports y)) x xs) in
+      ap (λ (m : ℕ). sum_by (λ y. sum_by (by_verdict m) (reports y)) (x ∷ xs)) at ∙ all
+  reported k (suc i) (x ∷ xs) own =
       let at : k + suc i ≡ suc k + i = omega arith in
       let n : ℕ = suc k + i in
-      let r : sum_by (λ y. sum_by (by_verdict n) (tells y)) xs ≡ code_of (seen (get_or xs i d)) = told (suc k) i xs (own_rest k x xs own) in
-      let here : sum_by (by_verdict n) (tells x) ≡ 0 = ap (sum_by (by_verdict n)) (own_here k x xs own) ∙ other_called n k (seen x) (λ e. omega arith) in
-      let all : sum_by (λ y. sum_by (by_verdict n) (tells y)) (x ∷ xs) ≡ code_of (seen (get_or xs i d)) = omega (arith, sum_by-cons (λ y. sum_by (by_verdict n) (tells y)) x xs) in
-      ap (λ (m : ℕ). sum_by (λ y. sum_by (by_verdict m) (tells y)) (x ∷ xs)) at ∙ all
+      let r : sum_by (λ y. sum_by (by_verdict n) (reports y)) xs ≡ code_of (seen (get_or xs i d)) = reported (suc k) i xs (own_rest k x xs own) in
+      let here : sum_by (by_verdict n) (reports x) ≡ 0 = ap (sum_by (by_verdict n)) (own_here k x xs own) ∙ other_called n k (seen x) (λ e. omega arith) in
+      let all : sum_by (λ y. sum_by (by_verdict n) (reports y)) (x ∷ xs) ≡ code_of (seen (get_or xs i d)) = omega (arith, sum_by-cons (λ y. sum_by (by_verdict n) (reports y)) x xs) in
+      ap (λ (m : ℕ). sum_by (λ y. sum_by (by_verdict m) (reports y)) (x ∷ xs)) at ∙ all
 
 module _ {E : Type 0} (action : E → ℕ) (verdict_on : E → Verdict) where
   abbrev call : E → CallRecord
@@ -136,23 +136,23 @@ module _ {E : Type 0} (action : E → ℕ) (verdict_on : E → Verdict) where
 abbrev verdict_seen : Option ActionResult → Option Verdict
 verdict_seen o = entered_verdict (result_or_skipped o)
 
-told_own : (n : ℕ) (o : Option ActionResult) → IfSome o (λ ended. ended_action ended ≡ n) → told_by o ≡ called_with n (verdict_seen o)
-told_own n None own = refl
-told_own n (Some ended) own = ap (λ (k : ℕ). called_with k (verdict_seen (Some ended))) own
+reported_own : (n : ℕ) (o : Option ActionResult) → IfSome o (λ ended. ended_action ended ≡ n) → reported_in o ≡ called_with n (verdict_seen o)
+reported_own n None own = refl
+reported_own n (Some ended) own = ap (λ (k : ℕ). called_with k (verdict_seen (Some ended))) own
 
 -- Each result is of the action at its place, and reports together what the journal keeps: the journal has the verdict of each
 -- called action, and of no other.
 pub verdicts : (before : ℕ → List ℕ) (results : List (Option ActionResult)) (entries : List Entry)
     → IsInOrder before (actions_of entries) → ((n : ℕ) → IfSome (get_or results n None) (λ ended. ended_action ended ≡ n))
-    → ((h : CallRecord → ℕ) → told_weight h results ≡ sum_by h (records_of entries))
+    → ((h : CallRecord → ℕ) → reported_weight h results ≡ sum_by h (records_of entries))
     → (n : ℕ) → verdict_in entries n ≡ entered_verdict (done_at (action_results_of results) n)
 verdicts before results entries order own same n =
     let zero_at : 0 + n ≡ n = omega arith in
-    let each : (i : ℕ) → i < length results → told_by (get_or results i None) ≡ called_with (0 + i) (verdict_seen (get_or results i None)) =
-    (λ i below. let far : i ≡ 0 + i = omega arith in told_own i (get_or results i None) (own i) ∙ ap (λ (k : ℕ). called_with k (verdict_seen (get_or results i None))) far) in
-    let tells : told_weight (by_verdict n) results ≡ code_of (verdict_seen (get_or results n None)) =
-    ap (λ (k : ℕ). told_weight (by_verdict k) results) (sym zero_at) ∙ told told_by verdict_seen None refl 0 n results each in
+    let each : (i : ℕ) → i < length results → reported_in (get_or results i None) ≡ called_with (0 + i) (verdict_seen (get_or results i None)) =
+    (λ i below. let far : i ≡ 0 + i = omega arith in reported_own i (get_or results i None) (own i) ∙ ap (λ (k : ℕ). called_with k (verdict_seen (get_or results i None))) far) in
+    let reports : reported_weight (by_verdict n) results ≡ code_of (verdict_seen (get_or results n None)) =
+    ap (λ (k : ℕ). reported_weight (by_verdict k) results) (sym zero_at) ∙ reported reported_in verdict_seen None refl 0 n results each in
     let keeps = kept (λ (e : Entry). e.action) (λ (e : Entry). e.verdict) n entries order.once in
     let seen : verdict_seen (get_or results n None) ≡ entered_verdict (done_at (action_results_of results) n) = ap entered_verdict (sym (one_done results n)) in
-    let weighs : code_of (verdict_in entries n) ≡ code_of (verdict_seen (get_or results n None)) = sym keeps ∙ (sym (same (by_verdict n)) ∙ tells) in
+    let weighs : code_of (verdict_in entries n) ≡ code_of (verdict_seen (get_or results n None)) = sym keeps ∙ (sym (same (by_verdict n)) ∙ reports) in
     same_verdict (verdict_in entries n) (verdict_seen (get_or results n None)) weighs ∙ seen

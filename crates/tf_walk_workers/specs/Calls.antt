@@ -26,28 +26,28 @@ called_with n None = []
 called_with n (Some v) = record { action = n; verdict = v } ∷ []
 
 -- the call that a result reports: none, unless the action was called
-abbrev pub told_of : ActionResult → List CallRecord
-told_of ended = called_with (ended_action ended) (entered_verdict (action_result_of ended))
+abbrev pub reported_by : ActionResult → List CallRecord
+reported_by ended = called_with (ended_action ended) (entered_verdict (action_result_of ended))
 
-abbrev pub told_by : Option ActionResult → List CallRecord
-told_by None = []
-told_by (Some ended) = told_of ended
+abbrev pub reported_in : Option ActionResult → List CallRecord
+reported_in None = []
+reported_in (Some ended) = reported_by ended
 
 -- what the calls weigh that some results report
-abbrev pub told_weight : (CallRecord → ℕ) → List (Option ActionResult) → ℕ
-told_weight h results = sum_by (λ o. sum_by h (told_by o)) results
+abbrev pub reported_weight : (CallRecord → ℕ) → List (Option ActionResult) → ℕ
+reported_weight h results = sum_by (λ o. sum_by h (reported_in o)) results
 
 -- a part of this tally is this number of its parts, and keeps and reports just these calls
-pub record HasParts (table : TableId) (count : ℕ) (kept told : List CallRecord) (part : HeldPart CallRecord) : Type 0 where
+pub record HasParts (table : TableId) (count : ℕ) (kept reported : List CallRecord) (part : HeldPart CallRecord) : Type 0 where
   pub own : part.table ≡ table
   pub counts : part.holding.parts ≡ count
   pub keeps : part.holding.kept ≡ kept
-  pub tells : part.holding.told ≡ told
+  pub reports : part.holding.reported ≡ reported
 
 -- A cell of an action has its result, once that is published, and a part that reports the action's call.
 pub record IsCell (ms : List Meaning) (plan : PlanView) (table : TableId) (n : ℕ) (ended : Option ActionResult) (part : HeldPart CallRecord) : Type 0 where
   pub fits : IfSome ended (IsEndOf ms plan n)
-  pub tells : HasParts table 1 [] (told_by ended) part
+  pub reports : HasParts table 1 [] (reported_in ended) part
 
 -- The parts of this number of cells were put to a part: it reports also what these results report.
 pub record IsGathered (count : ℕ) (results : List (Option ActionResult)) (old new : HeldPart CallRecord) : Type 0 where
@@ -55,4 +55,4 @@ pub record IsGathered (count : ℕ) (results : List (Option ActionResult)) (old 
   pub whole : new.holding.whole ≡ old.holding.whole
   pub parts : new.holding.parts ≡ old.holding.parts + count
   pub kept : new.holding.kept ≡ old.holding.kept
-  pub told : (h : CallRecord → ℕ) → sum_by h new.holding.told ≡ sum_by h old.holding.told + told_weight h results
+  pub reported : (h : CallRecord → ℕ) → sum_by h new.holding.reported ≡ sum_by h old.holding.reported + reported_weight h results

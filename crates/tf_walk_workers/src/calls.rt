@@ -4,7 +4,7 @@ ghost use Rattle.std.specs.Prelude.{◌≡◌, ◌<◌, ◌∷◌, [], map, IsSo
 ghost use Rattle.tf_provider.specs.Entries.{entry_of};
 ghost use Rattle.tf_walk_action.specs.Journal.{op_at};
 ghost use Rattle.tf_walk_action.specs.Words.{asked, asks_fully, call_of, call_of_provider, action_result_of, ended_action, HasCause, IsRun, IsServed, schema_in};
-ghost use Rattle.tf_walk_workers.specs.Calls.{HasParts, record_of, told_of};
+ghost use Rattle.tf_walk_workers.specs.Calls.{HasParts, record_of, reported_by};
 
 use crate::call_record::CallRecord;
 use crate::log::{Log, Logged, Unlogged};
@@ -57,7 +57,7 @@ pub(crate) fn serve<N: WalkBrand, R: Wait>(
     ensures action { ended_action result.ended ≡ permit }
     ensures cause { HasCause N.plan.order result.ended }
     ensures ended { IsRun (call_of (map meaning providers.now) (asked asking.request)) (action_result_of result.ended) }
-    ensures part { HasParts N.table 1 [] (told_of result.ended) result.part }
+    ensures part { HasParts N.table 1 [] (reported_by result.ended) result.part }
 {
     match first_provider(providers, asking.request.type_name.as_str()) {
         None => unreachable!(),
@@ -84,7 +84,7 @@ fn make_call<N: WalkBrand, R: Wait>(
     ensures action { ended_action result.ended ≡ permit }
     ensures cause { HasCause N.plan.order result.ended }
     ensures ended { IsRun (call_of_provider (asked asking.request) (meaning provider.now)) (action_result_of result.ended) }
-    ensures part { HasParts N.table 1 [] (told_of result.ended) result.part }
+    ensures part { HasParts N.table 1 [] (reported_by result.ended) result.part }
 {
     let called = call(provider, permit, asking.request);
     let Logged { recorded, part } = record(rt, log, tally, called, part);

@@ -4,7 +4,7 @@ ghost use Rattle.std.specs.Prelude.{◌≡◌, ◌+◌, ◌-◌, ◌<◌, ℕ, [
 ghost use Rattle.counted_slot.specs.Counting.{IsTurn};
 ghost use Rattle.tf_walk_action.specs.ResultViews.{action_results_of, ended_action};
 ghost use Rattle.tf_walk_action.specs.Outcome.{done_at};
-ghost use Rattle.tf_walk_workers.specs.Calls.{HasParts, IsGathered, told_of};
+ghost use Rattle.tf_walk_workers.specs.Calls.{HasParts, IsGathered, reported_by};
 ghost use Rattle.tf_walk_workers.specs.Ideal.{IsEndOf, IsTrueTo, IsNumbered};
 
 use crate::call_record::CallRecord;
@@ -86,10 +86,10 @@ impl<N: WalkBrand> Cells<N> {
     ) -> Result<Part<CallRecord>, Unpublished>
         requires action { action < self.now }
         requires own { IsEndOf N.meanings N.plan action ended }
-        requires part { HasParts N.table 1 [] (told_of ended) part }
+        requires part { HasParts N.table 1 [] (reported_by ended) part }
         ensures { MatchResult result
             (HasParts N.table 1 [] [])
-            (λ left. IsEndOf N.meanings N.plan action left.ended × HasParts N.table 1 [] (told_of left.ended) left.part) }
+            (λ left. IsEndOf N.meanings N.plan action left.ended × HasParts N.table 1 [] (reported_by left.ended) left.part) }
     {
         let (found, claim) = self.cell(action).turn(FREE, TAKEN);
         if found != FREE {

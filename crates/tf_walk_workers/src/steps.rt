@@ -2,7 +2,7 @@
 
 ghost use Rattle.std.specs.Prelude.{◌≡◌, ◌<◌, [], IfSome, map};
 ghost use Rattle.tf_walk_action.specs.Words.{action_result_of, ended_action, HasCause, names_in};
-ghost use Rattle.tf_walk_workers.specs.Calls.{HasParts, told_of};
+ghost use Rattle.tf_walk_workers.specs.Calls.{HasParts, reported_by};
 ghost use Rattle.tf_walk_workers.specs.Ideal.{IsEndOf, IsTrueTo};
 ghost use Rattle.tf_walk_workers.specs.Memo.{IsTrueMemo};
 ghost use Rattle.tf_walk_workers.specs.Shared.{IsOfWalk};
@@ -80,7 +80,7 @@ impl<'a, N: WalkBrand, R: Wait> WorkerContext<'a, N, R> {
 
     /// Returns the result of a claimed action, and a part that reports its call, in place of the given one. Waits until the
     /// results of all actions directly before it can be read.
-    #[tactic(auto, using(crate::proofs::Recording::tells_none))]
+    #[tactic(auto, using(crate::proofs::Recording::reports_none))]
     fn come_to_end(
         &self,
         providers: &[Box<dyn Provider + Sync>],
@@ -97,7 +97,7 @@ impl<'a, N: WalkBrand, R: Wait> WorkerContext<'a, N, R> {
         ensures action { ended_action result.ended ≡ permit }
         ensures cause { HasCause N.plan.order result.ended }
         ensures ended { IsTrueTo N.meanings N.plan permit (action_result_of result.ended) }
-        ensures part { HasParts N.table 1 [] (told_of result.ended) result.part }
+        ensures part { HasParts N.table 1 [] (reported_by result.ended) result.part }
         ensures memo { IfSome memo.new (IsTrueMemo N.meanings N.plan self.now.plan.now (names_in self.now.names.now)) }
     {
         let action = permit.action();
@@ -134,7 +134,7 @@ fn publish<N: WalkBrand, R: Wait>(
 ) -> Part<CallRecord>
     requires action { action < cells.now }
     requires own { IsEndOf N.meanings N.plan action ended }
-    requires part { HasParts N.table 1 [] (told_of ended) part }
+    requires part { HasParts N.table 1 [] (reported_by ended) part }
     ensures { HasParts N.table 1 [] [] result }
 {
     let mut left = Unpublished { ended, part };

@@ -16,7 +16,7 @@ use Rattle.tf_walk.proofs.Carried.{taken-back}
 use Rattle.tf_walk.proofs.Judging.{fit-asked, fit-judged}
 use Rattle.tf_walk.proofs.Reported.{is_report-told}
 use Rattle.tf_walk.proofs.Taking.{fit-lent}
-use Rattle.tf_walk.proofs.Wholeness.{told_is_kept}
+use Rattle.tf_walk.proofs.Wholeness.{reported_is_kept}
 use Rattle.tf_walk.proofs.ending.report_walk.Goals as goal
 
 pub report_of-requires-clause-judged : goal.report_of-requires-clause-judged
@@ -27,8 +27,8 @@ report_of-requires-clause-judged g c =
     let asked = some_requests plan (c.requires.fits.dependence.ranked c.requires.fits.acyclic) in
     fit-judged ms plan _ c.graph.ensures.order.ranked fit asked.0 asked.1
 
-pub returns-clause-run : goal.returns-clause-run
-returns-clause-run g c =
+pub returns-clause-walked : goal.returns-clause-walked
+returns-clause-walked g c =
     let ms = map (λ b. (goal.Provider-dyn g (b.vtable, b.value)).meaning b.value) c.args.providers.now in
     let plan = plan_of c.args.plan.now in
     let new = c.take_out.new.results in
@@ -44,7 +44,7 @@ returns-clause-run g c =
     let written : report.journal.entries ≡ entries = ap (λ (l : Log). l.entries) c.report_of.ensures.journal in
     let allowed : IsInOrder (predecessors_of c.args.plan.now.order) (actions_of entries) =
     subst (λ (d : Digraph). IsInOrder (predecessors_of d) (actions_of entries)) c.requires.journal c.entries-entries.ensures.allowed in
-    let same = told_is_kept g.N.WalkBrand.table entries c.args.cells c.args.plan.now.order.nodes new c.args.part c.take_out.new.part c.requires.part c.requires.whole c.take_out.ensures.gathered c.requires.cells c.audit.ensures.balanced in
+    let same = reported_is_kept g.N.WalkBrand.table entries c.args.cells c.args.plan.now.order.nodes new c.args.part c.take_out.new.part c.requires.part c.requires.whole c.take_out.ensures.gathered c.requires.cells c.audit.ensures.balanced in
     let asked = some_requests plan (c.requires.fits.dependence.ranked c.requires.fits.acyclic) in
     let is_report =
     is_report-told ms asked.0 plan done told.0 report (λ excuses. true_outcomes ms plan done ranked fit asked.0 asked.1 report.excused.items (λ n below. excuses n)) (fit-asked ms plan done ranked fit asked.0 asked.1) told.1 in

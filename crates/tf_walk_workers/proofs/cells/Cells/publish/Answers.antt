@@ -1,6 +1,6 @@
 use Rattle.std.proofs.Common.{ℕ, [], Option, Some, IfSome, refl, arith, sym, ◌∙◌, subst}
 use Rattle.tf_walk_action.specs.declared.action_result.ActionResult.{ActionResult}
-use Rattle.tf_walk_workers.specs.Calls.{HasParts, IsCell, told_by}
+use Rattle.tf_walk_workers.specs.Calls.{HasParts, IsCell, reported_in}
 use Rattle.tf_walk_workers.specs.Ideal.{IsEndOf}
 use Rattle.tf_walk_workers.proofs.cells.Cells.publish.Goals as goal
 
@@ -11,7 +11,7 @@ put-ended-requires g c =
       won.0 refl,
       omega arith,
       refl,
-      subst (λ (n : ℕ). IsCell g.N.WalkBrand.meanings g.N.WalkBrand.plan g.N.WalkBrand.table n (Some c.args.ended) c.args.part) (sym own) (record { fits = c.requires.own; tells = c.requires.part }),
+      subst (λ (n : ℕ). IsCell g.N.WalkBrand.meanings g.N.WalkBrand.plan g.N.WalkBrand.table n (Some c.args.ended) c.args.part) (sym own) (record { fits = c.requires.own; reports = c.requires.part }),
     )
 
 pub returns-in-Some : goal.returns-in-Some
@@ -22,5 +22,5 @@ returns-in-Some g c =
     let left = c.put-ended.result in
     let fits : IfSome left.ended (IsEndOf ms plan c.args.action) = subst (λ (n : ℕ). IfSome left.ended (IsEndOf ms plan n)) own c.put-ended.ensures.fits in (
       subst (λ (o : Option ActionResult). IfSome o (IsEndOf ms plan c.args.action)) c.in-Some.is fits,
-      subst (λ (o : Option ActionResult). HasParts g.N.WalkBrand.table 1 [] (told_by o) left.part) c.in-Some.is c.put-ended.ensures.tells,
+      subst (λ (o : Option ActionResult). HasParts g.N.WalkBrand.table 1 [] (reported_in o) left.part) c.in-Some.is c.put-ended.ensures.reports,
     )

@@ -33,7 +33,7 @@ loop-cell-preserved g c =
     let same : c.merge.new.part.table ≡ c.loop-cell.part.table = c.merge.ensures.same ∙ (c.requires.tally ∙ sym (c.loop-cell.invariant.1.own ∙ c.requires.part)) in (
       subst (λ (rs : List (Option ActionResult)). IsTakenOut ms plan count rest rs) (sym placed) (one-placed ms plan count rest c.loop-cell.results ended below is shorter),
       subst (λ (rs : List (Option ActionResult)). IsGathering (length rest) count rs c.args.part.now c.merge.new.part) (sym placed)
-          (gathers g.N.WalkBrand.table count c.args.part.now c.loop-cell.part c.merge.new.part (length rest) c.loop-cell.results c.into_inner-ended.result.part ended c.into_inner-ended.ensures.tells same c.merge.ensures.merged inside
+          (gathers g.N.WalkBrand.table count c.args.part.now c.loop-cell.part c.merge.new.part (length rest) c.loop-cell.results c.into_inner-ended.result.part ended c.into_inner-ended.ensures.reports same c.merge.ensures.merged inside
           (c.loop-cell.invariant.0.free (length rest) (omega (arith, all))) (subst (λ (k : ℕ). IsGathering k count c.loop-cell.results c.args.part.now c.loop-cell.part) all c.loop-cell.invariant.1)),
     )
 
@@ -41,7 +41,7 @@ pub merge-requires-clause-part : goal.merge-requires-clause-part
 merge-requires-clause-part g c = c.loop-cell.invariant.1.own ∙ (c.requires.part ∙ sym c.requires.tally)
 
 pub merge-requires-clause-other : goal.merge-requires-clause-other
-merge-requires-clause-other g c = c.into_inner-ended.ensures.tells.own ∙ sym c.requires.tally
+merge-requires-clause-other g c = c.into_inner-ended.ensures.reports.own ∙ sym c.requires.tally
 
 pub returns : goal.returns
 returns g c =

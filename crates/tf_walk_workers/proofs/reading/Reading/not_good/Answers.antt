@@ -9,5 +9,5 @@ use Rattle.tf_walk_workers.proofs.reading.Reading.not_good.Goals as goal
 pub returns : goal.returns
 returns g c =
     let r = c.args.self.now in
-    let told = subst (λ (d : ActionResultView). MatchOption c.not_good.result (is_good d ≡ true) (λ bad. (is_good d ≡ false) × (bad ≡ ended_action c.ended.result.now))) c.ended.ensures.same c.not_good.ensures in
-    evidence-is g.N.WalkBrand.meanings g.N.WalkBrand.plan r.action (done_in r) (ended_action c.ended.result.now) c.ended.ensures.own c.ended.ensures.fits c.not_good.result told
+    let reported = subst (λ (d : ActionResultView). MatchOption c.not_good.result (is_good d ≡ true) (λ bad. (is_good d ≡ false) × (bad ≡ ended_action c.ended.result.now))) c.ended.ensures.same c.not_good.ensures in
+    evidence-is g.N.WalkBrand.meanings g.N.WalkBrand.plan r.action (done_in r) (ended_action c.ended.result.now) c.ended.ensures.own c.ended.ensures.fits c.not_good.result reported
