@@ -1,7 +1,7 @@
 //! The file of a log. An apply locks it, and appends the log's lines to it.
 
 use std::fs::{File, OpenFile, OpenOptions, Permissions, TryLockError};
-use std::io::{ErrorKind, Write};
+use std::io::{ErrorKind, Read, Write};
 use std::os::unix::fs::{OpenOptionsExt, PermissionsExt};
 use std::rt::Files;
 use std::sync::Arc;
@@ -69,31 +69,69 @@ pub fn empty<F: LogFile>(file: &F) -> io::Result<()> {
 }
 
 /// Opens the file of a log, creates it if it doesn't exist, and locks it. Returns `None` if somebody else holds the
-/// lock. Only its owner can read and write the file. Fails if the name is a link.
+/// lock. Only its owner can read and write a file that this creates; an existing one stays as it is. Fails if the name
+/// is a link, or of anything else but a file.
 pub fn open_log<R: Files>(rt: &R, name: &str) -> io::Result<Option<R::File>>
 where
     R::File: LogFile,
 {
-    if is_link(rt, name) {
-        return Err(io::Error::from(ErrorKind::InvalidInput));
+    let file = match fs::symlink_metadata(rt, name) {
+        Ok(metadata) if metadata.is_file() => existing_log(rt, name)?,
+        Ok(_) => return Err(io::Error::from(ErrorKind::InvalidInput)),
+        Err(_) => new_log(rt, name)?,
+    };
+    if LogFile::try_lock(&file)? {
+        Ok(Some(file))
+    } else {
+        Ok(None)
     }
+}
+
+/// Creates the file of a log. Opens it if somebody else created it in the meantime.
+fn new_log<R: Files>(rt: &R, name: &str) -> io::Result<R::File> {
     let mut options = OpenOptions::new();
     options
         .read(true)
         .append(true)
-        .create(true)
+        .create_new(true)
         .mode(OWNER_ALONE);
-    let file = options.open(rt, name)?;
-    if !LogFile::try_lock(&file)? {
-        return Ok(None);
+    match options.open(rt, name) {
+        Ok(file) => {
+            file.set_permissions(Permissions::from_mode(OWNER_ALONE))?;
+            Ok(file)
+        }
+        Err(error) if error.kind() == ErrorKind::AlreadyExists => existing_log(rt, name),
+        Err(error) => Err(error),
     }
-    file.set_permissions(Permissions::from_mode(OWNER_ALONE))?;
-    Ok(Some(file))
 }
 
-fn is_link<R: Files>(rt: &R, name: &str) -> bool {
-    match fs::symlink_metadata(rt, name) {
-        Ok(metadata) => metadata.is_symlink(),
-        Err(_) => false,
+/// Opens the existing file of a log.
+fn existing_log<R: Files>(rt: &R, name: &str) -> io::Result<R::File> {
+    let mut options = OpenOptions::new();
+    options.read(true).append(true);
+    options.open(rt, name)
+}
+
+/// How many bytes are read of a file that doesn't begin as a log does.
+const BEGINNING: u64 = 0x1_0000;
+
+/// Reads a log. If the file doesn't begin as a log does, reads only its beginning, in which the first line is refused.
+pub(crate) fn read_log_file<R: Files + AllocGlobal>(rt: &R, name: &str) -> io::Result<Vec<u8>> {
+    let mut file = fs::open(rt, name)?;
+    let mut bytes = Vec::new(rt.alloc());
+    Read::by_ref(&mut file)
+        .take(BEGINNING)
+        .read_to_end(&mut bytes)?;
+    if bytes.first() == Some(&b'{') {
+        file.read_to_end(&mut bytes)?;
     }
+    Ok(bytes)
+}
+
+/// How the first line of a log begins.
+const FIRST_LINE: &[u8] = b"{\"config\":\"";
+
+/// Returns whether bytes without a whole line may be the beginning of a log.
+pub(crate) fn may_begin_log(bytes: &[u8]) -> bool {
+    bytes.starts_with(FIRST_LINE) || FIRST_LINE.starts_with(bytes)
 }

@@ -5,11 +5,14 @@ ghost use Rattle.tf_provider_log.specs.LogEntry.{log_entry_of, log_of};
 ghost use Rattle.tf_cli_files.specs.Past.{IsPastIn, IsTold};
 ghost use Rattle.tf_cli_files.specs.Program.{IsFailure};
 
+use crate::log_file::may_begin_log;
 use crate::telling::{tell_bad_line, tell_no_memory};
 use std::alloc::{AllocError, Global};
 use std::io::Write;
 use std::process::ExitCode;
-use tf_provider_log::{Header, Log, LogEntry, LogFault, answer_count, in_flight, read_log};
+use tf_provider_log::{
+    Header, LineFault, Log, LogEntry, LogFault, answer_count, in_flight, read_log,
+};
 use tf_provider_protocol::Request;
 
 /// An interrupted apply, as its log records it.
@@ -23,8 +26,8 @@ pub struct Past {
     pub in_flight: Vec<Request>,
 }
 
-/// Reads a log of this name. Returns `None` if it has no whole first line, in which case no call was made. If the log
-/// can't be read, prints that and returns the program's exit status.
+/// Reads a log of this name. Returns `None` if it has no whole first line, in which case no call was made. If it isn't a log
+/// or can't be read, prints that and returns the program's exit status.
 pub fn read_past<E: Write>(
     alloc: Global,
     name: &str,
@@ -35,7 +38,8 @@ pub fn read_past<E: Write>(
     ensures status { IfErr result IsFailure }
 {
     match read_log(alloc, bytes) {
-        Ok(None) => Ok(None),
+        Ok(None) if may_begin_log(bytes) => Ok(None),
+        Ok(None) => Err(tell_bad_line(name, 1, LineFault::NotAHeader, err)),
         Ok(Some(log)) => match past_of(alloc, log) {
             Ok(past) => Ok(Some(past)),
             Err(AllocError) => Err(tell_no_memory(err)),

@@ -27,8 +27,12 @@ impl Place {
     ///
     /// # Errors
     ///
-    /// Fails if 40 or more links follow one another, if a link's target isn't UTF-8, or if memory runs out.
+    /// Fails if the name is empty, if 40 or more links follow one another, if a link's target isn't UTF-8, or if memory
+    /// runs out.
     pub fn of<R: Files + AllocGlobal>(rt: &R, file: &str) -> io::Result<Place> {
+        if file.is_empty() {
+            return Err(io::Error::from(io::ErrorKind::InvalidInput));
+        }
         let alloc = rt.alloc();
         let state = end_of_links(rt, file)?;
         Ok(Place {

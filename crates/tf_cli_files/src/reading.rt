@@ -7,11 +7,25 @@ ghost use Rattle.tf_cli_lines.specs.Saved.{AppendsStart};
 ghost use Rattle.tf_cli_files.specs.Program.{AreReads, GoesOn, IsFailure, ReadsNamed, ReadsOptional, TellsUnread, unread_line};
 
 use crate::given::ProgramInput;
-use std::io;
-use std::io::{ErrorKind, Write};
+use std::io::{ErrorKind, Read, Write};
 use std::process::ExitCode;
+use std::rt::Files;
+use std::{fs, io};
 use tf_cli_lines::save_all;
 use tf_cli_options::Options;
+
+/// The most bytes that are read of a configuration or a variables file: one more than either may have.
+const MOST_BYTES: u64 = 4_194_305;
+
+/// Reads a configuration or a variables file, which may be a pipe. Of a file that is larger than allowed, reads one byte
+/// too many, and no more.
+pub(crate) fn read_input<R: Files + AllocGlobal>(rt: &R, name: &str) -> io::Result<Vec<u8>> {
+    let mut bytes = Vec::new(rt.alloc());
+    fs::open(rt, name)?
+        .take(MOST_BYTES)
+        .read_to_end(&mut bytes)?;
+    Ok(bytes)
+}
 
 /// Reads the files that the options name, the configuration and then the variables. The state is `None` for now. If a
 /// file can't be read, prints that, reads no other one, and returns the program's exit status.

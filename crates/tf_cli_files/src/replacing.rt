@@ -50,6 +50,43 @@ impl<R: Files> Write for Replacement<'_, R> {
     }
 }
 
+/// Tries whether the new state file can be created, and removes it. Returns whether the log belongs to the user who can create
+/// it, or to the owner of the state. If there is something else of that name, nothing is known of the user, and the answer is true.
+///
+/// # Errors
+///
+/// Fails if the folder can't be written to.
+pub(crate) fn check_new_file<R: Files>(rt: &R, place: &Place, log: &R::File) -> io::Result<bool> {
+    let new = place.new.as_str();
+    let _ = fs::remove_file(rt, new);
+    let mut options = OpenOptions::new();
+    options.write(true).create_new(true).mode(OWNER_ALONE);
+    let user = match options.open(rt, new) {
+        Ok(file) => file.metadata()?.uid(),
+        Err(error) if is_refused(&error) => return Err(error),
+        Err(_) => return Ok(true),
+    };
+    fs::remove_file(rt, new)?;
+    let owner = log.metadata()?.uid();
+    Ok(owner == user || is_owner(rt, place.state.as_str(), owner))
+}
+
+/// Returns whether an error says that a folder can't be written to.
+fn is_refused(error: &io::Error) -> bool {
+    matches!(
+        error.kind(),
+        ErrorKind::PermissionDenied | ErrorKind::ReadOnlyFilesystem | ErrorKind::NotFound
+    )
+}
+
+/// Returns whether a file exists and has this owner.
+fn is_owner<R: Files>(rt: &R, name: &str, owner: u32) -> bool {
+    match fs::metadata(rt, name) {
+        Ok(metadata) => metadata.uid() == owner,
+        Err(_) => false,
+    }
+}
+
 /// Gives a new file the mode of the existing state and, if the system allows it, its owner and group.
 fn keep_permissions<R: Files>(rt: &R, place: &Place, written: &R::File) -> io::Result<()> {
     match fs::metadata(rt, place.state.as_str()) {

@@ -4,11 +4,12 @@ ghost use Rattle.std.specs.Prelude.{IfErr};
 ghost use Rattle.tf_cli_files.specs.Program.{IsFailure};
 
 use crate::given::ProgramInput;
-use crate::log_file::{LogFile, empty, open_log};
+use crate::log_file::{LogFile, empty, open_log, read_log_file};
 use crate::past::{Past, read_past};
 use crate::place::Place;
-use crate::reading::{read_files, read_optional, tell_unread};
-use crate::telling::{tell_locked, tell_no_log};
+use crate::reading::{read_files, read_input, read_optional, tell_unread};
+use crate::replacing::check_new_file;
+use crate::telling::{tell_locked, tell_no_log, tell_special, tell_unwritable};
 use std::fs::OpenFile;
 use std::io::Write;
 use std::process::ExitCode;
@@ -37,7 +38,7 @@ pub fn see<R: Files + AllocGlobal, E: Write>(
 ) -> Result<Seen, ExitCode>
     ensures { IfErr result IsFailure }
 {
-    let given = read_files(options, &|file| fs::read(rt, file), err)?;
+    let given = read_files(options, &|file| read_input(rt, file), err)?;
     let place = place_of(rt, &given, err)?;
     see_state(rt, given, place, err)
 }
@@ -53,9 +54,10 @@ where
     R::File: LogFile,
     ensures { IfErr result IsFailure }
 {
-    let given = read_files(options, &|file| fs::read(rt, file), err)?;
+    let given = read_files(options, &|file| read_input(rt, file), err)?;
     let place = place_of(rt, &given, err)?;
     let log = lock(rt, &given, &place, err)?;
+    check_owner(rt, &place, &log, err)?;
     let seen = see_state(rt, given, place, err)?;
     if seen.past.is_none() && take_torn_away(&log).is_err() {
         return Err(tell_no_log(seen.place.log.as_str(), err));
@@ -64,7 +66,7 @@ where
 }
 
 /// Returns the files of the state that the options name. If its name leads nowhere, prints that the file can't be
-/// read.
+/// read. If the state or the log is a pipe, a device or a socket, prints that.
 fn place_of<R: Files + AllocGlobal, E: Write>(
     rt: &R,
     given: &ProgramInput,
@@ -72,9 +74,39 @@ fn place_of<R: Files + AllocGlobal, E: Write>(
 ) -> Result<Place, ExitCode>
     ensures { IfErr result IsFailure }
 {
-    match Place::of(rt, given.options.state.as_str()) {
-        Ok(place) => Ok(place),
-        Err(_) => Err(tell_unread(given.options.state.as_str(), err)),
+    let Ok(place) = Place::of(rt, given.options.state.as_str()) else {
+        return Err(tell_unread(given.options.state.as_str(), err));
+    };
+    for name in [place.state.as_str(), place.log.as_str()] {
+        if is_special(rt, name) {
+            return Err(tell_special(name, err));
+        }
+    }
+    Ok(place)
+}
+
+/// Returns whether a name leads to a pipe, a device or a socket.
+fn is_special<R: Files>(rt: &R, name: &str) -> bool {
+    match fs::metadata(rt, name) {
+        Ok(metadata) => !metadata.is_file() && !metadata.is_dir(),
+        Err(_) => false,
+    }
+}
+
+/// Checks that the new state file can be created, and that the log belongs to the user of this program or to the owner of
+/// the state: whoever owns the log can read what is written to it. If not, prints that.
+fn check_owner<R: Files, E: Write>(
+    rt: &R,
+    place: &Place,
+    log: &R::File,
+    err: &mut E,
+) -> Result<(), ExitCode>
+    ensures { IfErr result IsFailure }
+{
+    match check_new_file(rt, place, log) {
+        Ok(true) => Ok(()),
+        Ok(false) => Err(tell_no_log(place.log.as_str(), err)),
+        Err(_) => Err(tell_unwritable(place.state.as_str(), err)),
     }
 }
 
@@ -115,7 +147,8 @@ fn see_state<R: Files + AllocGlobal, E: Write>(
 {
     let read = |file: &str| -> io::Result<Vec<u8>> { fs::read(rt, file) };
     given.state = read_optional(place.state.as_str(), &read, err)?;
-    let past = match read_optional(place.log.as_str(), &read, err)? {
+    let read_log = |file: &str| -> io::Result<Vec<u8>> { read_log_file(rt, file) };
+    let past = match read_optional(place.log.as_str(), &read_log, err)? {
         Some(log) => read_past(rt.alloc(), place.log.as_str(), log.as_slice(), err)?,
         None => None,
     };

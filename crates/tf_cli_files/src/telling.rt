@@ -38,6 +38,22 @@ pub fn tell_no_log<E: Write>(name: &str, err: &mut E) -> ExitCode
     ExitCode::FAILURE
 }
 
+/// Prints that the state can't be written, so that no provider is called. Returns the program's exit status.
+pub(crate) fn tell_unwritable<E: Write>(file: &str, err: &mut E) -> ExitCode
+    ensures { IsFailure result }
+{
+    let _ = save_all(err, &["error: cannot write ", file, "\n"]);
+    ExitCode::FAILURE
+}
+
+/// Prints that a state or a log is a pipe, a device or a socket, and returns the program's exit status.
+pub(crate) fn tell_special<E: Write>(file: &str, err: &mut E) -> ExitCode
+    ensures { IsFailure result }
+{
+    let _ = save_all(err, &["error: ", file, " isn't a regular file\n"]);
+    ExitCode::FAILURE
+}
+
 /// Prints that a line of a log is malformed, and returns the program's exit status.
 pub fn tell_bad_line<E: Write>(name: &str, number: usize, fault: LineFault, err: &mut E) -> ExitCode
     ensures { IsFailure result }
