@@ -64,7 +64,8 @@ fn apply_by<T: Threads + Wait + Sync, O: Write, E: Write>(
     let alloc = rt.alloc();
     let control = CallControl::new(alloc, Arc::try_clone(file)?, given.options.stop_after)?;
     let sim = control.wrap(alloc, Sim::new(alloc)?)?;
-    let local_file = control.wrap(alloc, LocalFile::new(alloc, *rt)?)?;
+    let reserved = place.own_files(alloc, &given.options)?;
+    let local_file = control.wrap(alloc, LocalFile::with_reserved(alloc, *rt, reserved)?)?;
     let mut providers: Vec<Box<dyn Provider + Sync>> = Vec::new(alloc);
     providers.push(Box::new(alloc, with_progress(rt, given, sim))?)?;
     providers.push(Box::new(alloc, with_progress(rt, given, local_file))?)?;

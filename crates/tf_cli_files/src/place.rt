@@ -1,8 +1,10 @@
 //! The files of a state: the file that its name leads to, and the files next to it.
 
+use std::alloc::{AllocError, Global};
 use std::path::Path;
 use std::rt::Files;
 use std::{fs, io};
+use tf_cli_options::Options;
 
 /// The least number of links in a row that is refused, after Linux's limit of 40.
 const MOST_LINKS: usize = 40;
@@ -42,6 +44,30 @@ impl Place {
             log: format!(in alloc; "{state}.log")?,
             state,
         })
+    }
+
+    /// Returns the names of these files, and of the configuration and the variables file that the options name. No provider may
+    /// write to them.
+    ///
+    /// # Errors
+    ///
+    /// Only if memory runs out.
+    pub fn own_files(&self, alloc: Global, options: &Options) -> Result<Vec<String>, AllocError> {
+        let mut names = Vec::new(alloc);
+        for name in [
+            &self.state,
+            &self.new,
+            &self.backup,
+            &self.new_backup,
+            &self.log,
+            &options.config,
+        ] {
+            names.push(String::from_str(alloc, name.as_str())?)?;
+        }
+        if let Some(vars) = &options.vars {
+            names.push(String::from_str(alloc, vars.as_str())?)?;
+        }
+        Ok(names)
     }
 
     /// Returns the folder of these files.

@@ -13,7 +13,8 @@
 //!
 //! A create writes the file, with the folders that it needs, or replaces an existing file. A destroy removes the file if its
 //! SHA-256 is the object's, and succeeds if there is no file. Any other file stays, and standard error names it. If the disk
-//! refuses, the answer is `NoMemory`, and standard error reports which file it was and why. So an answer depends only on the
+//! refuses, or if the name is reserved for a file of the program, the answer is `NoMemory`, and standard error reports which
+//! file it was and why. So an answer depends only on the
 //! request, apart from `NoMemory`.
 #![tactic(auto)]
 
@@ -24,6 +25,7 @@ mod folders;
 mod local_file;
 mod mode;
 mod own;
+mod reserved;
 mod wanted;
 
 pub use local_file::LocalFile;

@@ -7,6 +7,7 @@ ghost use Rattle.tf_provider_local.specs.Schema.{file_schema};
 use crate::answers::{answer, refusal};
 use crate::attributes::file_schema;
 use crate::disk::{Ending, fulfil};
+use crate::reserved::is_reserved;
 use crate::wanted::{Wanted, wants};
 use std::alloc::{AllocError, Global};
 use std::io;
@@ -19,6 +20,7 @@ pub struct LocalFile<R: Files + Eprint + Drop> {
     alloc: Global,
     rt: R,
     schema: Schema,
+    reserved: Vec<String>,
     ghost schema_is: { schema ≡ file_schema },
 }
 
@@ -27,13 +29,38 @@ impl<R: Files + Eprint + Drop> LocalFile<R> {
     pub fn new(alloc: Global, rt: R) -> Result<LocalFile<R>, AllocError>
         ensures { IfOk result (λ provider. ⟦<LocalFile<R> as Provider>⟧.meaning provider ≡ file_meaning) }
     {
+        LocalFile::with_reserved(alloc, rt, Vec::new(alloc))
+    }
+
+    /// Like [`LocalFile::new`], but never writes a file of one of the reserved names, which are those of the program's own files.
+    pub fn with_reserved(
+        alloc: Global,
+        rt: R,
+        reserved: Vec<String>,
+    ) -> Result<LocalFile<R>, AllocError>
+        ensures { IfOk result (λ provider. ⟦<LocalFile<R> as Provider>⟧.meaning provider ≡ file_meaning) }
+    {
         let schema = file_schema(alloc)?;
-        Ok(LocalFile { alloc, rt, schema })
+        Ok(LocalFile {
+            alloc,
+            rt,
+            schema,
+            reserved,
+        })
     }
 
     /// Writes or removes the wanted file, and returns whether that succeeded. Prints on standard error which file the
-    /// disk refused and why, and which file a destroy kept.
+    /// disk refused and why, which name is reserved, and which file a destroy kept.
     fn is_fulfilled(&self, request: &Request, wanted: &Wanted<'_>) -> bool {
+        if let Wanted::File(file) = wanted
+            && is_reserved(&self.rt, &self.reserved, file.name)
+        {
+            let _ = eprintln!(&self.rt;
+                "error: cannot write {:?}: it is a file of this apply",
+                file.name
+            );
+            return false;
+        }
         let address = request.address.as_str();
         match fulfil(self.alloc, &self.rt, address, wanted) {
             Ok(Ending::Wanted) => true,
