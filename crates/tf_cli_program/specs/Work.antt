@@ -11,6 +11,7 @@ use Rattle.tf_provider_protocol.specs.Meaning.{Meaning}
 use Rattle.tf_walk.specs.Workers.{are_workers}
 use Rattle.tf_cli.specs.Applies.{IsApplied, IsPlanOf, IsPlanText}
 use Rattle.tf_cli_text.specs.Shown.{to_write}
+use Rattle.tf_provider_log.specs.Header.{HeaderView}
 use Rattle.tf_plan_text.specs.Dot.{IsDrawn}
 use Rattle.tf_plan_data.specs.Plan.{PlanView}
 use Rattle.tf_cli_files.specs.Kept.{EndsKept}
@@ -23,6 +24,15 @@ use Rattle.tf_cli_files.specs.declared.given.ProgramInput.{ProgramInput}
 -- the texts that a program was given
 abbrev pub texts_of : ProgramInput → Texts
 texts_of given = the_texts given.config.items (option_map (λ bytes. bytes.items) given.vars) (option_map (λ bytes. bytes.items) given.state)
+
+-- the first line of the log of an apply of what was given
+abbrev pub header_given : ProgramInput → HeaderView
+header_given given = record {
+  config = given.config.items;
+  vars = option_map (λ bytes. bytes.items) given.vars;
+  state = option_map (λ bytes. bytes.items) given.state;
+  lineage = string_bytes given.options.lineage;
+}
 
 -- an answer as plain data
 abbrev pub answer_of : Result (String Global) Refused → Result (List ℕ) Refused

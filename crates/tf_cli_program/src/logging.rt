@@ -1,8 +1,9 @@
 //! An apply with a log, and the recovery before it.
 
-ghost use Rattle.std.specs.Prelude.{◌≡◌, ◌⊎◌, IfErr, IfOk, OnOk, map, option_map, string_bytes};
+ghost use Rattle.std.specs.Process.{exit_status};
+ghost use Rattle.std.specs.Prelude.{◌≡◌, ◌≤◌, ◌⊎◌, IfErr, IfOk, IfSome, OnOk, map, option_map, string_bytes};
 ghost use Rattle.tf_cli_files.specs.Program.{IsFailure};
-ghost use Rattle.tf_cli_program.specs.Work.{EndsLogged};
+ghost use Rattle.tf_cli_program.specs.Work.{EndsLogged, header_given};
 ghost use Rattle.tf_cli_program.specs.Recovery.{ContinuesFrom, IsInspected, IsReplaced};
 
 use crate::recovery_status::{RecoveryStatus, recovery_status};
@@ -29,8 +30,8 @@ const EXIT_INSPECT: u8 = 2;
 ///
 /// # Errors
 ///
-/// The program's status if the state can't be recovered or written, or if a call was begun whose result isn't known. The reason
-/// is then on standard error.
+/// The program's status, which isn't 0, if the state can't be recovered or written, or if a call was begun whose result isn't
+/// known. The reason is then on standard error.
 pub fn finish_recovery<R: Files + AllocGlobal, O: Write, E: Write>(
     rt: &R,
     place: &Place,
@@ -45,6 +46,7 @@ where
     R::File: LogFile,
     ensures from { IfOk result (λ _. ContinuesFrom (map meaning replayed.now) past.now given.old given.new) }
     ensures into { IfOk result (λ _. IsInspected past.now given.old) }
+    ensures status { IfErr result (λ status. 1 ≤ exit_status status) }
 {
     match recovery_status(rt.alloc(), place, given, past, replayed, err)? {
         RecoveryStatus::After => empty_log(file, place, err),
@@ -92,7 +94,8 @@ fn replace_state<R: Files, O: Write, E: Write>(
     out: &mut O,
     err: &mut E,
 ) -> Result<(), ExitCode>
-    ensures { IfOk result (λ _. IsReplaced (option_map string_bytes state) given.old given.new) }
+    ensures replaced { IfOk result (λ _. IsReplaced (option_map string_bytes state) given.old given.new) }
+    ensures status { IfErr result (λ status. 1 ≤ exit_status status) }
 {
     let Some(state) = state else {
         return Ok(());
@@ -181,7 +184,9 @@ fn start<R: Files + AllocGlobal, S: Sink, E: Write>(
 }
 
 /// Returns what was given as texts, or `None` if one of them isn't UTF-8.
-fn header_of(alloc: Global, given: &ProgramInput) -> Result<Option<Header>, AllocError> {
+fn header_of(alloc: Global, given: &ProgramInput) -> Result<Option<Header>, AllocError>
+    ensures { IfOk result (λ found. IfSome found (λ header. header ≡ header_given given.now)) }
+{
     let lineage = String::from_str(alloc, given.options.lineage.as_str())?;
     let Some(config) = text_of(alloc, given.config.as_slice())? else {
         return Ok(None);
@@ -201,7 +206,9 @@ fn header_of(alloc: Global, given: &ProgramInput) -> Result<Option<Header>, Allo
 }
 
 /// Returns bytes as a text if they are UTF-8.
-fn text_of(alloc: Global, bytes: &[u8]) -> Result<Option<String>, AllocError> {
+fn text_of(alloc: Global, bytes: &[u8]) -> Result<Option<String>, AllocError>
+    ensures { IfOk result (λ found. IfSome found (λ text. string_bytes text ≡ bytes.now)) }
+{
     match str::from_utf8(bytes) {
         Ok(text) => Ok(Some(String::from_str(alloc, text)?)),
         Err(_) => Ok(None),
@@ -212,7 +219,9 @@ fn text_of(alloc: Global, bytes: &[u8]) -> Result<Option<String>, AllocError> {
 fn optional_text(
     alloc: Global,
     bytes: Option<&[u8]>,
-) -> Result<Option<Option<String>>, AllocError> {
+) -> Result<Option<Option<String>>, AllocError>
+    ensures { IfOk result (λ found. IfSome found (λ text. option_map string_bytes text ≡ option_map (λ b. b.now) bytes.entry)) }
+{
     match bytes {
         None => Ok(Some(None)),
         Some(bytes) => match text_of(alloc, bytes)? {
