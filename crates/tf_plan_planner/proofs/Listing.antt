@@ -1,5 +1,5 @@
 -- The actions of all instances, as one list: of each place those of its members, one after another.
-use Rattle.std.proofs.Common.{◌≡◌, ◌∙◌, ◌+◌, ◌++◌, Bool, true, false, cond, if◌then◌else◌, ℕ, List, [], ◌∷◌, Option, Some, None, map, refl, sym, ap}
+use Rattle.std.proofs.Common.{◌≡◌, ◌∙◌, ◌+◌, ◌++◌, Bool, true, false, cond, if◌then◌else◌, ℕ, List, [], ◌∷◌, Option, Some, None, map, refl, ap}
 use Rattle.std.specs.List.{enumerate_from, flat_map}
 use Rattle.std.specs.Prelude.{slice_get}
 use Rattle.tf_plan_data.specs.Action.{ActionView}
@@ -81,7 +81,7 @@ module _ (ms : List Meaning) (resources : List ResourceView) (variables : Entrie
       → flat_map instance_actions (instances ms resources variables names shapes resolved_names order) ≡ flat_map (λ n. place_actions n (slice_get (numbered names resources) n)) order
   listed-actions order =
       let along : flat_map (λ n. flat_map instance_actions (instances_at ms resources variables names shapes resolved_names n (slice_get (numbered names resources) n))) order
-          ≡ flat_map (λ n. place_actions n (slice_get (numbered names resources) n)) order =
+      ≡ flat_map (λ n. place_actions n (slice_get (numbered names resources) n)) order =
       (λ i. flat_map (λ n. place-listed n (slice_get (numbered names resources) n) i) order) in
       flat_flat instance_actions (λ n. instances_at ms resources variables names shapes resolved_names n (slice_get (numbered names resources) n)) order ∙ along
 

@@ -1,5 +1,5 @@
 -- Where the wanted names stand for the same, the same is planned.
-use Rattle.std.proofs.Common.{◌≡◌, ◌≢◌, ◌∙◌, ◌++◌, ◌∷◌, ℕ, Some, length, Result, Ok, Err, IfOk, List, [], map, if◌then◌else◌, refl, sym, ap, subst, inl, inr}
+use Rattle.std.proofs.Common.{◌≡◌, ◌≢◌, ◌∙◌, ◌++◌, ◌∷◌, ℕ, Some, length, Result, Ok, Err, IfOk, List, [], map, if◌then◌else◌, refl, ap, subst, inl, inr}
 use Rattle.std.specs.List.{AllByRecursion}
 use Rattle.std.specs.Prelude.{Contains, slice_get}
 use Rattle.std.specs.declared.alloc.AllocError.{AllocError}
