@@ -14,7 +14,7 @@ use Rattle.tf_plan_decision.specs.Stage.{deciding, records_at}
 use Rattle.tf_plan_decision.specs.Steps.{decided_steps}
 use Rattle.tf_plan_decision.specs.Whole.{block_instances, instances, instances_at, name_instances}
 use Rattle.tf_plan_decision.specs.Decision as decision
-use Rattle.tf_plan_decision.specs.Decision.{DecisionView, DecisionFaultView, change, current, unless_prevented, unless_unfit}
+use Rattle.tf_plan_decision.specs.Decision.{change, current, unless_prevented, unless_unfit}
 use Rattle.tf_plan_decision.specs.Ignored.{heeding, ignored_fault}
 use Rattle.tf_plan_decision.specs.Prior.{PriorFaultView, first_unfit}
 use Rattle.tf_expand_keys.proofs.Places.{all_places}

@@ -5,9 +5,8 @@ use Rattle.std.specs.List.{enumerate_from, flat_map}
 use Rattle.std.specs.Prelude.{fold, slice_get}
 use Rattle.tf_config_address.specs.ObjectId.{InstanceKeyView}
 use Rattle.tf_config_data.specs.Names.{NameView}
-use Rattle.tf_plan_data.specs.Action.{ActionView}
 use Rattle.tf_plan_decision.specs.Collecting.{with_members, with_outcome, with_row}
-use Rattle.tf_plan_decision.specs.Deciding.{DecidedView, InstanceOutcomeView, OfView, RefusedInstanceView, action, decisions_on, fault_in, instance_actions, instance_outcomes, instance_refusals, steps_in}
+use Rattle.tf_plan_decision.specs.Deciding.{DecidedView, InstanceOutcomeView, OfView, action, decisions_on, instance_actions, instance_outcomes, instance_refusals, steps_in}
 use Rattle.tf_plan_decision.specs.Outcome.{OutcomeView}
 use Rattle.tf_plan_decision.specs.Rows.{followed_by, gathered, nothing_decided, row, row_at}
 use Rattle.tf_plan_decision.specs.Whole.{instances, instances_at}
