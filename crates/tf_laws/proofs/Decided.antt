@@ -1,17 +1,18 @@
 -- Where nothing is refused, each instance that is looked at is decided; and what is decided of one.
-use Rattle.std.proofs.Common.{◌≡◌, ◌∙◌, ◌+◌, ◌++◌, ℕ, Bool, true, false, cond, if◌then◌else◌, List, [], ◌∷◌, Option, Some, None, Result, Ok, Err, fold, refl, sym, ap}
-use Rattle.std.specs.List.{AllByRecursion}
+use Rattle.std.proofs.Common.{◌≡◌, ◌∙◌, ◌+◌, ◌++◌, ℕ, Bool, true, false, cond, if◌then◌else◌, List, [], ◌∷◌, map, Option, Some, None, Result, Ok, Err, refl, sym, ap}
+use Rattle.std.specs.List.{AllByRecursion, enumerate_from, flat_map}
 use Rattle.std.specs.Prelude.{slice_get}
 use Rattle.tf_plan_data.specs.Action.{StepView}
 use Rattle.tf_config_address.specs.ObjectId.{InstanceKeyView}
 use Rattle.tf_plan_object.specs.Instance.{InstanceFaultView, for_each_fault, argument_fault, instance_object}
 use Rattle.tf_config_data.specs.Config.{BlockView, LifecycleView}
 use Rattle.tf_config_data.specs.Names.{NameView, Meant, a_local, a_block, directly_before}
-use Rattle.tf_plan_decision.specs.Deciding.{DecidedView, OfView, version_of, with_block, with_members, with_outcome}
+use Rattle.tf_plan_decision.proofs.Appending.{flat_flat, numbered_outcome}
+use Rattle.tf_plan_decision.specs.Deciding.{OfView, RefusedInstanceView, fault_in, instance_refusals, of_at}
 use Rattle.tf_plan_decision.specs.Outcome.{OutcomeView, by_decision, declared_outcome, member_outcome, orphan_outcome, removal_outcome}
 use Rattle.tf_plan_decision.specs.Stage.{block_members}
 use Rattle.tf_plan_decision.specs.Steps.{decided_steps}
-use Rattle.tf_plan_decision.specs.Whole.{with_meant, with_numbered}
+use Rattle.tf_plan_decision.specs.Whole.{block_instances, instances, instances_at, name_instances}
 use Rattle.tf_plan_decision.specs.Decision as decision
 use Rattle.tf_plan_decision.specs.Decision.{DecisionView, DecisionFaultView, change, current, decided, no_provider, unless_prevented, unless_unfit}
 use Rattle.tf_plan_decision.specs.Ignored.{heeding, ignored_fault}
@@ -23,7 +24,7 @@ use Rattle.tf_graph.specs.Solutions.{seen_by}
 use Rattle.tf_plan_order.specs.Members.{InstanceToPlanView, is_among, member, members, records_of}
 use Rattle.tf_provider_protocol.specs.Meaning.{Meaning, schema_in}
 use Rattle.tf_provider_protocol.specs.Schema.{SchemaView}
-use Rattle.tf_plan_order.specs.ResourceIndex.{ResourceRefView, a_name, an_orphan}
+use Rattle.tf_plan_order.specs.ResourceIndex.{ResourceRefView, a_name, an_orphan, numbered}
 use Rattle.tf_state_data.specs.Record.{RecordView}
 use Rattle.tf_state_data.specs.Resource.{ResourceView}
 use Rattle.tf_value_data.specs.Tree.{Tree, Entries}
@@ -99,20 +100,21 @@ decided_member (Some schema) block env keys records key among fine =
     let d = by_decision-is own (decision.decision schema block.lifecycle own p) fine.0 (sym (ap outcome among) ∙ fine.1) in
     record { schema = schema; has = refl; choice = d.0; decides = d.1; outcome = fine.1 ∙ ap Ok (sym d.2) }
 
-not_behind : {A : Type 0} (xs : List A) (x : A) → xs ++ x ∷ [] ≡ [] → ⊥
-not_behind [] x e = cc
-not_behind (y ∷ xs) x e = cc
+-- what is refused of one list and of another is refused of neither where there is nothing of both
+pub neither : {A : Type 0} (xs ys : List A) → xs ++ ys ≡ [] → (xs ≡ []) × (ys ≡ [])
+neither [] ys e = (refl, e)
+neither (x ∷ xs) ys e = absurd (cc)
 
-outcome_fine : (of : OfView) (i : ℕ) (m : InstanceToPlanView) (o : OutcomeView) (d : DecidedView) → (with_outcome of i m.key o d).refusals ≡ [] → (d.refusals ≡ []) × IsFine o
-outcome_fine of i m (Ok steps) d e = (e, (steps, refl))
-outcome_fine of i m (Err why) d e = absurd (not_behind d.refusals _ e)
+outcome_fine : (of : OfView) (key : InstanceKeyView) (o : OutcomeView) (rest : List RefusedInstanceView) → map (λ why. record { addr = of.addr; key = key; why = why }) (fault_in o) ++ rest ≡ [] → IsFine o × (rest ≡ [])
+outcome_fine of key (Ok steps) rest e = ((steps, refl), e)
+outcome_fine of key (Err why) rest e = absurd (cc)
 
-members_fine : (of : OfView) (becomes : InstanceToPlanView → OutcomeView) (i : ℕ) (ms : List InstanceToPlanView) (d : DecidedView) → (with_members of becomes i ms d).refusals ≡ [] → (d.refusals ≡ []) × AllByRecursion (λ m. IsFine (becomes m)) ms
-members_fine of becomes i [] d e = (e, tt)
-members_fine of becomes i (m ∷ ms) d e =
-    let rest = members_fine of becomes (i + 1) ms (with_outcome of i m.key (becomes m) d) e in
-    let here = outcome_fine of i m (becomes m) d rest.0 in
-    (here.0, (here.1, rest.1))
+members_fine : (of : OfView) (becomes : InstanceToPlanView → OutcomeView) (i : ℕ) (ms : List InstanceToPlanView)
+    → flat_map instance_refusals (map (numbered_outcome of becomes) (enumerate_from i ms)) ≡ [] → AllByRecursion (λ m. IsFine (becomes m)) ms
+members_fine of becomes i [] e = tt
+members_fine of becomes i (m ∷ ms) e =
+    let here = outcome_fine of m.key (becomes m) (flat_map instance_refusals (map (numbered_outcome of becomes) (enumerate_from (i + 1) ms))) e in
+    (here.0, members_fine of becomes (i + 1) ms here.1)
 
 module _ (ms : List Meaning) (resources : List ResourceView) (variables : Entries) (names : List NameView) (shapes : ℕ → InstanceKeysView) (resolved_names : ℕ → ResolvedView) where
   abbrev pub IsMeantFine : ℕ → Meant → Type 0
@@ -127,29 +129,33 @@ module _ (ms : List Meaning) (resources : List ResourceView) (variables : Entrie
   IsNumberedFine n (Some (a_name name)) = IsMeantFine n name.meant
   IsNumberedFine n (Some (an_orphan r)) = AllByRecursion (λ m. IsFine (orphan_outcome (schema_in r.addr.type_name ms) m)) (members [] r.records)
 
-  meant_fine : (n : ℕ) (m : Meant) (d : DecidedView) → (with_meant ms resources variables names shapes resolved_names n m d).refusals ≡ [] → (d.refusals ≡ []) × IsMeantFine n m
-  meant_fine n (a_local e) d h = (h, tt)
-  meant_fine n (a_block block) d h = by_test (all_stand (seen_by resolved_names (directly_before names n))) h
+  meant_fine : (n : ℕ) (m : Meant) → flat_map instance_refusals (name_instances ms resources variables names shapes resolved_names n m) ≡ [] → IsMeantFine n m
+  meant_fine n (a_local e) h = tt
+  meant_fine n (a_block block) h = by_test (all_stand (seen_by resolved_names (directly_before names n))) h
     where
-      by_test : (b : Bool) → (cond b (with_block ms resources n block (environment variables names resolved_names) (shapes n) d) d).refusals ≡ []
-          → (d.refusals ≡ []) × (b ≡ true → AllByRecursion (λ m. IsFine (member_outcome (schema_in block.addr.type_name ms) block (environment variables names resolved_names) m)) (block_members (shapes n) block resources))
-      by_test true e =
-          let schema = schema_in block.addr.type_name ms in
-          let found = members_fine (record { resource = n; addr = block.addr; version = version_of schema }) (member_outcome schema block (environment variables names resolved_names)) 0 (block_members (shapes n) block resources) d e in
-          (found.0, λ is. found.1)
-      by_test false e = (e, λ is. absurd (cc))
+      by_test : (b : Bool) → flat_map instance_refusals (cond b (block_instances ms resources n block (environment variables names resolved_names) (shapes n)) []) ≡ []
+          → b ≡ true → AllByRecursion (λ m. IsFine (member_outcome (schema_in block.addr.type_name ms) block (environment variables names resolved_names) m)) (block_members (shapes n) block resources)
+      by_test true e is =
+          members_fine (of_at ms n block.addr) (member_outcome (schema_in block.addr.type_name ms) block (environment variables names resolved_names)) 0 (block_members (shapes n) block resources) e
+      by_test false e is = absurd (cc)
 
-  numbered_fine : (n : ℕ) (o : Option ResourceRefView) (d : DecidedView) → (with_numbered ms resources variables names shapes resolved_names n o d).refusals ≡ [] → (d.refusals ≡ []) × IsNumberedFine n o
-  numbered_fine n None d h = (h, tt)
-  numbered_fine n (Some (a_name name)) d h = meant_fine n name.meant d h
-  numbered_fine n (Some (an_orphan r)) d h =
-      let schema = schema_in r.addr.type_name ms in members_fine (record { resource = n; addr = r.addr; version = version_of schema }) (orphan_outcome schema) 0 (members [] r.records) d h
+  numbered_fine : (n : ℕ) (o : Option ResourceRefView) → flat_map instance_refusals (instances_at ms resources variables names shapes resolved_names n o) ≡ [] → IsNumberedFine n o
+  numbered_fine n None h = tt
+  numbered_fine n (Some (a_name name)) h = meant_fine n name.meant h
+  numbered_fine n (Some (an_orphan r)) h = members_fine (of_at ms n r.addr) (orphan_outcome (schema_in r.addr.type_name ms)) 0 (members [] r.records) h
+
+  each_fine : (order : List ℕ)
+      → flat_map (λ n. flat_map instance_refusals (instances_at ms resources variables names shapes resolved_names n (slice_get (numbered names resources) n))) order ≡ []
+      → AllByRecursion (λ n. IsNumberedFine n (slice_get (numbered names resources) n)) order
+  each_fine [] h = tt
+  each_fine (n ∷ order) h =
+      let own = flat_map instance_refusals (instances_at ms resources variables names shapes resolved_names n (slice_get (numbered names resources) n)) in
+      let parts = neither own (flat_map (λ k. flat_map instance_refusals (instances_at ms resources variables names shapes resolved_names k (slice_get (numbered names resources) k))) order) h in
+      (numbered_fine n (slice_get (numbered names resources) n) parts.0, each_fine order parts.1)
 
   -- where nothing is refused, each instance at each place is decided
-  pub all_fine : (all : List ResourceRefView) (order : List ℕ) (d : DecidedView) → (fold (λ e n. with_numbered ms resources variables names shapes resolved_names n (slice_get all n) e) d order).refusals ≡ []
-      → (d.refusals ≡ []) × AllByRecursion (λ n. IsNumberedFine n (slice_get all n)) order
-  all_fine all [] d h = (h, tt)
-  all_fine all (n ∷ order) d h =
-      let rest = all_fine all order (with_numbered ms resources variables names shapes resolved_names n (slice_get all n) d) h in
-      let here = numbered_fine n (slice_get all n) d rest.0 in
-      (here.0, (here.1, rest.1))
+  pub all_fine : (order : List ℕ) → flat_map instance_refusals (instances ms resources variables names shapes resolved_names order) ≡ []
+      → AllByRecursion (λ n. IsNumberedFine n (slice_get (numbered names resources) n)) order
+  all_fine order h =
+      each_fine order
+      (sym (flat_flat instance_refusals (λ n. instances_at ms resources variables names shapes resolved_names n (slice_get (numbered names resources) n)) order) ∙ h)

@@ -12,6 +12,7 @@ use Rattle.tf_config_address.specs.Same.{addr_Decides}
 use Rattle.tf_plan_object.specs.Instance.{instance_object}
 use Rattle.tf_config_data.specs.Config.{BlockView}
 use Rattle.tf_config_data.specs.Names.{NameView, Meant, a_local, a_block, meant_at, directly_before}
+use Rattle.tf_plan_decision.specs.Deciding.{of_at}
 use Rattle.tf_plan_decision.specs.Outcome.{OutcomeView, by_removal, declared_outcome, member_outcome, orphan_outcome, removal_outcome}
 use Rattle.tf_plan_decision.specs.Stage.{deciding, records_at}
 use Rattle.tf_plan_decision.specs.Steps.{decided_steps, destroy_of, removal_steps}
@@ -25,7 +26,6 @@ use Rattle.tf_plan_order.specs.Members.{InstanceToPlanView, is_among, is_of, mem
 use Rattle.tf_state_next.proofs.Changing.{found_addr}
 use Rattle.tf_state_next.proofs.Finding.{all_found, found_holds}
 use Rattle.tf_plan_planner.proofs.Distinct.{to_map}
-use Rattle.tf_plan_planner.proofs.Listing.{of_at}
 use Rattle.tf_plan_planner.proofs.Steps.{removal-destroys}
 pub use Rattle.tf_plan_planner.proofs.Tied.{blocks_one}
 use Rattle.tf_plan_planner.specs.Planned.{IsPlanned, unrefused}

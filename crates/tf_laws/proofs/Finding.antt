@@ -17,7 +17,8 @@ use Rattle.tf_plan_planner.proofs.Existing.{some_standings}
 use Rattle.tf_plan_planner.proofs.Refusing.{refused_block}
 use Rattle.tf_plan_planner.specs.Ordered.{AreTied, action_pairs, max_pairs, stored_graph}
 use Rattle.tf_plan_planner.specs.Plan.{IsPlan, max_actions}
-use Rattle.tf_plan_planner.specs.Planned.{AreInstances, IsPlanned, PlannedView, planned_in, unrefused}
+use Rattle.tf_plan_planner.proofs.Listing.{planned_in}
+use Rattle.tf_plan_planner.specs.Planned.{AreInstances, IsPlanned, PlannedView, unrefused}
 use Rattle.tf_plan_planner.specs.Refused.{AreRefused, beyond_limit, instances_refusal}
 use Rattle.tf_plan_data.specs.Plan.{PlanView}
 use Rattle.tf_plan_order.specs.Late.{IsLate}
@@ -153,7 +154,7 @@ module _ (ms : List Meaning) (config : ConfigView) (variables : Entries) (prior 
         let found = some_standings (deciding ms prior.resources shapes) variables (names_of config) d is acyclic in
         let order = some_order (numbered (names_of config) prior.resources) in
         let view : PlannedView = planned_in ms prior.resources variables (names_of config) config.outputs shapes order.0 found.0 in
-        by_refusals view.actions view.refusals (record { places = order.0; in_order = order.1; resolved_names = found.0; stand = found.1; decided = refl })
+        by_refusals view.actions view.refusals (record { places = order.0; in_order = order.1; resolved_names = found.0; stand = found.1; actions = refl; refusals = refl })
 
   by_expansion : Found
   by_expansion =

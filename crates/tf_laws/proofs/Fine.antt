@@ -7,15 +7,16 @@ use Rattle.tf_config_data.specs.Config.{BlockView}
 use Rattle.tf_config_data.specs.Names.{NameView, a_block, directly_before, meant_at}
 use Rattle.tf_plan_decision.specs.Outcome.{orphan_outcome}
 use Rattle.tf_plan_decision.specs.Stage.{deciding}
-use Rattle.tf_plan_decision.specs.Whole.{decided, nothing_decided}
+use Rattle.tf_plan_decision.specs.Deciding.{instance_actions, instance_refusals}
+use Rattle.tf_plan_decision.specs.Whole.{instances}
 use Rattle.tf_expand_keys.specs.InstanceKeys.{InstanceKeysView}
 use Rattle.tf_expand_keys.specs.Resolved.{ResolvedView, AreResolvedNames}
 use Rattle.tf_graph.specs.Solutions.{Ranked}
 use Rattle.tf_plan_order.specs.Members.{members}
-use Rattle.tf_plan_planner.proofs.Listing.{decided-actions, place_actions}
+use Rattle.tf_plan_planner.proofs.Listing.{listed-actions, place_actions, planned_in}
 use Rattle.tf_plan_planner.proofs.Solved.{planned-by}
 use Rattle.tf_plan_planner.specs.Outputs.{output_refusals}
-use Rattle.tf_plan_planner.specs.Planned.{IsPlanned, PlannedView, planned_in, unrefused}
+use Rattle.tf_plan_planner.specs.Planned.{IsPlanned, PlannedView, unrefused}
 use Rattle.tf_plan_planner.specs.Told.{instance_told}
 use Rattle.tf_provider_protocol.specs.Meaning.{Meaning, schema_in}
 use Rattle.tf_plan_order.specs.ResourceIndex.{ResourceRefView, a_name, an_orphan, numbered}
@@ -34,10 +35,11 @@ module _ (ms : List Meaning) (variables : Entries) (names : List NameView) (outp
 
   fine : AllByRecursion (λ n. IsNumberedFine ms resources variables names shapes resolved_names n (slice_get (numbered names resources) n)) planned.places
   fine =
-      let told : map instance_told (decided ms resources variables names shapes resolved_names (numbered names resources) planned.places).refusals ++ output_refusals variables names resolved_names outputs ≡ [] =
+      let refusals = flat_map instance_refusals (instances ms resources variables names shapes resolved_names planned.places) in
+      let told : map instance_told refusals ++ output_refusals variables names resolved_names outputs ≡ [] =
       ap (λ (p : PlannedView). p.refusals) is_planned in
-      let none = map_none instance_told (decided ms resources variables names shapes resolved_names (numbered names resources) planned.places).refusals (output_refusals variables names resolved_names outputs) told in
-      (all_fine ms resources variables names shapes resolved_names (numbered names resources) planned.places nothing_decided none).1
+      let none = map_none instance_told refusals (output_refusals variables names resolved_names outputs) told in
+      all_fine ms resources variables names shapes resolved_names planned.places none
 
   place_fine : (n : ℕ) (o : Option ResourceRefView) → slice_get (numbered names resources) n ≡ o → Contains planned.places n → IsNumberedFine ms resources variables names shapes resolved_names n o
   place_fine n o e there =
@@ -58,6 +60,5 @@ module _ (ms : List Meaning) (variables : Entries) (names : List NameView) (outp
   -- the actions, place by place
   pub actions_are : actions ≡ flat_map (λ n. place_actions ms resources variables names shapes resolved_names n (slice_get (numbered names resources) n)) planned.places
   actions_are =
-      let all = numbered names resources in
-      let made : (decided ms resources variables names shapes resolved_names all planned.places).actions ≡ actions = ap (λ (p : PlannedView). p.actions) is_planned in
-      sym made ∙ decided-actions ms resources variables names shapes resolved_names all planned.places
+      let made : flat_map instance_actions (instances ms resources variables names shapes resolved_names planned.places) ≡ actions = ap (λ (p : PlannedView). p.actions) is_planned in
+      sym made ∙ listed-actions ms resources variables names shapes resolved_names planned.places

@@ -6,7 +6,7 @@ use Rattle.tf_plan_data.specs.Action.{ActionView, StepView}
 use Rattle.tf_config_address.specs.ObjectId.{InstanceKeyView}
 use Rattle.tf_config_data.specs.Config.{BlockView}
 use Rattle.tf_config_data.specs.Names.{NameView, Meant, a_local, a_block, meant_at, directly_before}
-use Rattle.tf_plan_decision.specs.Deciding.{OfView, action}
+use Rattle.tf_plan_decision.specs.Deciding.{OfView, action, of_at}
 use Rattle.tf_plan_decision.specs.Outcome.{OutcomeView, member_outcome, orphan_outcome}
 use Rattle.tf_plan_decision.specs.Stage.{block_members, deciding}
 use Rattle.tf_expand_keys.specs.InstanceKeys.{InstanceKeysView}
@@ -15,7 +15,7 @@ use Rattle.tf_graph.proofs.Edges.{contains_cases, contains_head, contains_tail}
 use Rattle.tf_graph.specs.Solutions.{Ranked, seen_by}
 use Rattle.tf_plan_order.specs.Members.{InstanceToPlanView, members}
 use Rattle.tf_plan_planner.proofs.Distinct.{in_flat_map, in_map, to_map}
-use Rattle.tf_plan_planner.proofs.Listing.{block_actions, member_actions, meant_actions, of_at, outcome_actions, place_actions}
+use Rattle.tf_plan_planner.proofs.Listing.{block_actions, member_actions, meant_actions, outcome_actions, place_actions}
 use Rattle.tf_plan_planner.specs.Planned.{IsPlanned, unrefused}
 use Rattle.tf_provider_protocol.specs.Meaning.{Meaning, schema_in}
 use Rattle.tf_plan_order.specs.ResourceIndex.{ResourceRefView, a_name, an_orphan, numbered}

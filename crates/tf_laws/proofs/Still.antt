@@ -9,7 +9,7 @@ use Rattle.tf_plan_object.specs.Instance.{instance_object}
 use Rattle.tf_config_data.specs.Config.{BlockView, LifecycleView}
 use Rattle.tf_config_data.specs.Names.{NameView, Meant, a_local, a_block, meant_at, refers_at, directly_before, block_refers}
 use Rattle.tf_plan_decision.proofs.Local.{stage_local}
-use Rattle.tf_plan_decision.specs.Deciding.{OfView}
+use Rattle.tf_plan_decision.specs.Deciding.{OfView, of_at}
 use Rattle.tf_plan_decision.specs.Outcome.{OutcomeView, by_decision, declared_outcome, member_outcome, removal_outcome}
 use Rattle.tf_plan_decision.specs.Stage.{all_can_go, block_members, decided_object, deciding, object_of, object_beside, object_unless_refused, records_at, stays_or_goes}
 use Rattle.tf_plan_decision.specs.Steps.{decided_steps, destroy_if_deposed}
@@ -28,7 +28,7 @@ use Rattle.tf_graph.proofs.Solving.{all_by_weaker, solution-exists}
 use Rattle.tf_graph.specs.Solutions.{Ranked, seen_by}
 use Rattle.tf_plan_order.specs.Members.{InstanceToPlanView, is_among, member, members, records_of}
 use Rattle.tf_expr_operators.specs.Answer.{limited}
-use Rattle.tf_plan_planner.proofs.Listing.{member_actions, meant_actions, of_at, place_actions}
+use Rattle.tf_plan_planner.proofs.Listing.{member_actions, meant_actions, place_actions}
 use Rattle.tf_provider_protocol.specs.Meaning.{Meaning, schema_in}
 use Rattle.tf_provider_protocol.specs.Schema.{SchemaView}
 use Rattle.tf_walk_names.proofs.Answering.{next_is}

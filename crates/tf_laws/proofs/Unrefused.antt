@@ -1,19 +1,20 @@
 -- Beside resources at rest of which nothing is refused there is a plan.
-use Rattle.std.proofs.Common.{◌≡◌, ◌∙◌, ◌+◌, ◌++◌, ℕ, Bool, true, false, cond, if◌then◌else◌, List, [], ◌∷◌, Option, Some, None, is_some, Result, Ok, fold, length, map, refl, ap, ap₂, subst}
-use Rattle.std.specs.List.{AllByRecursion}
+use Rattle.std.proofs.Common.{◌≡◌, ◌∙◌, ◌+◌, ◌++◌, ℕ, Bool, true, false, cond, if◌then◌else◌, List, [], ◌∷◌, Option, Some, None, is_some, Result, Ok, length, map, refl, sym, ap, ap₂, subst}
+use Rattle.std.specs.List.{AllByRecursion, enumerate_from, flat_map}
 use Rattle.std.specs.Prelude.{slice_get}
 use Rattle.tf_config_address.specs.ObjectId.{InstanceKeyView}
 use Rattle.tf_plan_object.proofs.Locals.{instances_local}
 use Rattle.tf_plan_object.specs.Instance.{InstanceFaultView, instance_object}
 use Rattle.tf_config_data.specs.Config.{BlockView, LifecycleView}
 use Rattle.tf_config_data.specs.Names.{NameView, Meant, a_local, a_block, block_refers, directly_before, meant_at, places, refers_at}
-use Rattle.tf_plan_decision.specs.Deciding.{DecidedView, OfView, version_of, with_block, with_members, with_outcome}
+use Rattle.tf_plan_decision.proofs.Appending.{flat_flat, numbered_outcome}
+use Rattle.tf_plan_decision.specs.Deciding.{OfView, fault_in, instance_actions, instance_refusals, of_at}
 use Rattle.tf_plan_decision.specs.Outcome.{OutcomeView, by_decision, declared_outcome, member_outcome, removal_outcome}
 use Rattle.tf_plan_decision.specs.Stage.{deciding, records_at}
 use Rattle.tf_plan_decision.specs.Steps.{decided_steps}
-use Rattle.tf_plan_decision.specs.Whole.{decided, nothing_decided, with_meant, with_numbered}
+use Rattle.tf_plan_decision.specs.Whole.{block_instances, instances, instances_at, name_instances}
 use Rattle.tf_plan_decision.specs.Decision as decision
-use Rattle.tf_plan_decision.specs.Decision.{DecisionView, DecisionFaultView, change, current, unless_prevented, unless_unfit}
+use Rattle.tf_plan_decision.specs.Decision.{change, current, unless_prevented, unless_unfit}
 use Rattle.tf_plan_decision.specs.Ignored.{heeding, ignored_fault}
 use Rattle.tf_plan_decision.specs.Prior.{PriorFaultView, first_unfit}
 use Rattle.tf_expand_keys.proofs.Places.{all_places}
@@ -27,11 +28,12 @@ use Rattle.tf_expr_eval.specs.ExprMeaning.{meaning}
 use Rattle.tf_expr_eval.specs.Locality.{AgreeOn}
 use Rattle.tf_graph.proofs.Solving.{all_by_weaker, solution-exists}
 use Rattle.tf_graph.specs.Solutions.{Ranked, seen_by}
+use Rattle.tf_plan_order.specs.AddressOrder.{AreInAddressOrder}
 use Rattle.tf_plan_order.specs.Members.{InstanceToPlanView, member, members, is_among, records_of}
 use Rattle.tf_expr_operators.specs.Answer.{Answer}
-use Rattle.tf_plan_planner.proofs.Listing.{decided-actions, place_actions}
+use Rattle.tf_plan_planner.proofs.Listing.{listed-actions, place_actions}
 use Rattle.tf_plan_planner.specs.Outputs.{output_fault, output_refusals}
-use Rattle.tf_plan_planner.specs.Planned.{planned_in}
+use Rattle.tf_plan_planner.specs.Planned.{IsPlanned, unrefused}
 use Rattle.tf_plan_planner.specs.Told.{instance_told}
 use Rattle.tf_provider_protocol.specs.Meaning.{Meaning, schema_in}
 use Rattle.tf_provider_protocol.specs.Schema.{SchemaView}
@@ -84,9 +86,12 @@ member_fine ms block ks all key env seen object among rest free agree =
 
 -- ---- what is refused
 
-none_more : (of : OfView) (becomes : InstanceToPlanView → OutcomeView) (i : ℕ) (ms : List InstanceToPlanView) (d : DecidedView) → AllByRecursion (λ m. becomes m ≡ Ok []) ms → (with_members of becomes i ms d).refusals ≡ d.refusals
-none_more of becomes i [] d h = refl
-none_more of becomes i (m ∷ ms) d h = none_more of becomes (i + 1) ms (with_outcome of i m.key (becomes m) d) h.1 ∙ ap (λ (o : OutcomeView). (with_outcome of i m.key o d).refusals) h.0
+none_more : (of : OfView) (becomes : InstanceToPlanView → OutcomeView) (i : ℕ) (ms : List InstanceToPlanView) → AllByRecursion (λ m. becomes m ≡ Ok []) ms
+    → flat_map instance_refusals (map (numbered_outcome of becomes) (enumerate_from i ms)) ≡ []
+none_more of becomes i [] h = refl
+none_more of becomes i (m ∷ ms) h =
+    let rest = flat_map instance_refusals (map (numbered_outcome of becomes) (enumerate_from (i + 1) ms)) in
+    ap (λ (o : OutcomeView). map (λ why. record { addr = of.addr; key = m.key; why = why }) (fault_in o) ++ rest) h.0 ∙ none_more of becomes (i + 1) ms h.1
 
 fine_output : (name : List ℕ) (a : Answer) (t : Tree) → a ≡ Ok t → output_fault name a ≡ []
 fine_output name a t e = ap (output_fault name) e
@@ -115,29 +120,27 @@ module _ (ms : List Meaning) (variables : Entries) (names : List NameView) (shap
       member_fine ms block (instance_keys (shapes n)) (records_at block.addr resources) key (environment variables names resolved_names) (environment variables names others) (objects n key) among
       (still.rest others stands n block key meant among) (free n block key meant among) own)
 
-  meant_free : (n : ℕ) (m : Meant) (d : DecidedView) → meant_at names n ≡ Some m → (with_meant ms resources variables names shapes resolved_names n m d).refusals ≡ d.refusals
-  meant_free n (a_local e) d meant = refl
-  meant_free n (a_block block) d meant = by_test (all_stand (seen_by resolved_names (directly_before names n)))
+  meant_free : (n : ℕ) (m : Meant) → meant_at names n ≡ Some m → flat_map instance_refusals (name_instances ms resources variables names shapes resolved_names n m) ≡ []
+  meant_free n (a_local e) meant = refl
+  meant_free n (a_block block) meant = by_test (all_stand (seen_by resolved_names (directly_before names n)))
     where
-      by_test : (b : Bool) → (cond b (with_block ms resources n block (environment variables names resolved_names) (shapes n) d) d).refusals ≡ d.refusals
+      by_test : (b : Bool) → flat_map instance_refusals (cond b (block_instances ms resources n block (environment variables names resolved_names) (shapes n)) []) ≡ []
       by_test false = refl
       by_test true =
-          let schema = schema_in block.addr.type_name ms in
           let before = before_same ms variables names shapes objects resources ranked still resolved_names others solves stands looked_at n (meant_within names n (a_block block) meant) in
           let each = block_still ms variables names shapes objects resources ranked still resolved_names others solves stands looked_at n block meant before in
-          none_more (record { resource = n; addr = block.addr; version = version_of schema }) (member_outcome schema block (environment variables names resolved_names)) 0 (members (instance_keys (shapes n)) (records_at block.addr resources)) d
+          none_more (of_at ms n block.addr) (member_outcome (schema_in block.addr.type_name ms) block (environment variables names resolved_names)) 0 (members (instance_keys (shapes n)) (records_at block.addr resources))
           (parts_of _ (λ m. member_outcome (schema_in block.addr.type_name ms) block (environment variables names resolved_names) m ≡ Ok []) (members (instance_keys (shapes n)) (records_at block.addr resources)) (λ m h. h.0) each)
 
-  numbered_free : (n : ℕ) (o : Option ResourceRefView) (d : DecidedView) → slice_get (numbered names resources) n ≡ o → (with_numbered ms resources variables names shapes resolved_names n o d).refusals ≡ d.refusals
-  numbered_free n None d e = refl
-  numbered_free n (Some (a_name name)) d e = meant_free n name.meant d (at_name names resources n name e)
-  numbered_free n (Some (an_orphan r)) d e = absurd (no_orphan names resources still.blocks n r e)
+  numbered_free : (n : ℕ) (o : Option ResourceRefView) → slice_get (numbered names resources) n ≡ o → flat_map instance_refusals (instances_at ms resources variables names shapes resolved_names n o) ≡ []
+  numbered_free n None e = refl
+  numbered_free n (Some (a_name name)) e = meant_free n name.meant (at_name names resources n name e)
+  numbered_free n (Some (an_orphan r)) e = absurd (no_orphan names resources still.blocks n r e)
 
-  all_free : (order : List ℕ) (d : DecidedView) → (fold (λ e n. with_numbered ms resources variables names shapes resolved_names n (slice_get (numbered names resources) n) e) d order).refusals ≡ d.refusals
-  all_free [] d = refl
-  all_free (n ∷ order) d =
-      all_free order (with_numbered ms resources variables names shapes resolved_names n (slice_get (numbered names resources) n) d)
-      ∙ numbered_free n (slice_get (numbered names resources) n) d refl
+  all_free : (order : List ℕ) → flat_map instance_refusals (instances ms resources variables names shapes resolved_names order) ≡ []
+  all_free order =
+      let at = λ (n : ℕ). instances_at ms resources variables names shapes resolved_names n (slice_get (numbered names resources) n) in
+      flat_flat instance_refusals at order ∙ flat_none (λ n. flat_map instance_refusals (at n)) order (λ n. numbered_free n (slice_get (numbered names resources) n) refl)
 
   outputs_free : (es : expr.Entries) → EachMeans (environment variables names others) es → output_refusals variables names resolved_names es ≡ []
   outputs_free expr.no_entries h = refl
@@ -150,25 +153,25 @@ module _ (ms : List Meaning) (variables : Entries) (names : List NameView) (shap
       (either_none (all_stand (seen_by resolved_names (places names (named_by e)))) (output_fault name (meaning (environment variables names resolved_names) e)) (fine_output name (meaning (environment variables names resolved_names) e) h.0.0 means))
       (outputs_free es h.1)
 
-  pub plans_nothing : (outputs : expr.Entries) (order : List ℕ) → EachMeans (environment variables names others) outputs
-      → planned_in ms resources variables names outputs shapes order resolved_names ≡ record { actions = []; refusals = [] }
-  plans_nothing outputs order means =
-      let done : (decided ms resources variables names shapes resolved_names (numbered names resources) order).actions ≡ [] =
-      decided-actions ms resources variables names shapes resolved_names (numbered names resources) order
+  no_actions : (order : List ℕ) → flat_map instance_actions (instances ms resources variables names shapes resolved_names order) ≡ []
+  no_actions order =
+      listed-actions ms resources variables names shapes resolved_names order
       ∙ flat_none (λ n. place_actions ms resources variables names shapes resolved_names n (slice_get (numbered names resources) n)) order
-      (λ n. place_none ms variables names shapes objects resources ranked still resolved_names others solves stands looked_at n (slice_get (numbered names resources) n) refl) in
-      let refused : map instance_told (decided ms resources variables names shapes resolved_names (numbered names resources) order).refusals ++ output_refusals variables names resolved_names outputs ≡ [] =
-      ap (λ rs. map instance_told rs ++ output_refusals variables names resolved_names outputs) (all_free order nothing_decided) ∙ outputs_free outputs means in
-      λ i. record { actions = done i; refusals = refused i }
+      (λ n. place_none ms variables names shapes objects resources ranked still resolved_names others solves stands looked_at n (slice_get (numbered names resources) n) refl)
+
+  pub plans_nothing : (outputs : expr.Entries) (order : List ℕ) → AreInAddressOrder (numbered names resources) order → EachMeans (environment variables names others) outputs
+      → IsPlanned ms resources variables names outputs shapes (unrefused [])
+  plans_nothing outputs order in_order means = record {
+    places = order;
+    in_order = in_order;
+    resolved_names = resolved_names;
+    stand = solves;
+    actions = sym (no_actions order);
+    refusals = sym (ap (λ rs. map instance_told rs ++ output_refusals variables names resolved_names outputs) (all_free order) ∙ outputs_free outputs means);
+  }
 
 pub nothing_refused : NothingIsRefusedAtRest
 nothing_refused ms variables names outputs shapes objects resources order ranked still free in_order =
     let others = solution-exists (length names) (directly_before names) (rule (applying shapes objects) variables names) ranked in
     let resolved_names = solution-exists (length names) (directly_before names) (rule (deciding ms resources shapes) variables names) ranked in
-    record {
-      places = order;
-      in_order = in_order;
-      resolved_names = resolved_names.0;
-      stand = resolved_names.1;
-      decided = plans_nothing ms variables names shapes objects resources ranked still resolved_names.0 others.0 resolved_names.1 others.1 (free.instances others.0 others.1) outputs order (free.outputs_mean others.0 others.1);
-    }
+    plans_nothing ms variables names shapes objects resources ranked still resolved_names.0 others.0 resolved_names.1 others.1 (free.instances others.0 others.1) outputs order in_order (free.outputs_mean others.0 others.1)

@@ -7,11 +7,12 @@ use Rattle.std.specs.List.{AllByRecursion}
 use Rattle.std.specs.Prelude.{Contains, slice_get, slice_index, slice_index_or}
 use Rattle.tf_config_data.specs.Config.{BlockView}
 use Rattle.tf_config_data.specs.Names.{NameView, Meant, a_local, a_block, block_refers, directly_before, meant_at, places, refers_at}
+use Rattle.tf_plan_decision.proofs.Appending.{collected, collected_is}
 use Rattle.tf_plan_decision.proofs.Local.{block_local, stage_local}
-use Rattle.tf_plan_decision.specs.Deciding.{DecidedView, decided_of}
-use Rattle.tf_plan_decision.specs.Rows.{AreDecided, AreOnce, NeedsAreWanted, gathered, row, rows_of, with_row}
+use Rattle.tf_plan_decision.specs.Collecting.{with_row}
+use Rattle.tf_plan_decision.specs.Deciding.{DecidedView, decided_of, decisions_on}
+use Rattle.tf_plan_decision.specs.Rows.{AreDecided, AreOnce, NeedsAreWanted, gathered, nothing_decided, row, rows_of}
 use Rattle.tf_plan_decision.specs.Stage.{deciding}
-use Rattle.tf_plan_decision.specs.Whole.{nothing_decided}
 use Rattle.tf_plan_decision.specs.declared.collecting.Decided.{Decided}
 use Rattle.tf_expand_keys.proofs.Keeping.{AreKept, earlier, kept_more, kept_start, next_standing, stood_is}
 use Rattle.tf_expand_keys.proofs.Seen.{agree_on}
@@ -53,8 +54,8 @@ module _ (ms : List Meaning) (resources : List ResourceView) (variables : Entrie
       let along = same (block, refl) in
       let seen = seen_by-same kept resolved_names (directly_before names p) along in
       let agree = agree_on variables names kept resolved_names (block_refers block) (subst (λ (x : Option Meant). AllByRecursion (λ a. kept a ≡ resolved_names a) (places names (refers_at x))) here along) in
-      let decides = block_local ms resources p block (environment variables names kept) (environment variables names resolved_names) (shapes p) nothing_decided agree in
-      (λ i. if all_stand (seen i) then decides i else nothing_decided)
+      let decides = block_local ms resources p block (environment variables names kept) (environment variables names resolved_names) (shapes p) agree in
+      (λ i. decisions_on (if all_stand (seen i) then decides i else []))
 
   -- what is kept once the names before a place of the order are done
   pub record AreLooked (order : List ℕ) (wanted : List Bool) (i : ℕ) (kept : List Resolved) (rows : List Decided) : Type 0 where
@@ -126,9 +127,9 @@ still_same : (rows now kept : ℕ → DecidedView) (p : ℕ) (ns : List ℕ) →
 still_same rows now kept p [] others apart same = tt
 still_same rows now kept p (n ∷ ns) others apart same = (others n apart.0 ∙ same.0, still_same rows now kept p ns others apart.1 same.1)
 
--- what is gathered of the places so far, where what is kept of those to come is still there
+-- what is collected of the places so far, where the rows of those to come are still there
 pub record AreGathered (ms : List Meaning) (all : List ResourceRefView) (order : List ℕ) (kept : ℕ → DecidedView) (i : ℕ) (rows : ℕ → DecidedView) (d : DecidedView) : Type 0 where
-  pub made : d ≡ gathered ms kept all (take i order)
+  pub made : d ≡ collected ms kept all (take i order)
   pub left : AllByRecursion (λ n. rows n ≡ kept n) (drop i order)
   pub once : AreOnce (drop i order)
 
@@ -148,7 +149,7 @@ gather_more ms all order kept i p rows now d new h is added others inv =
     record {
       made =
           added ∙ with_row_same ms rows kept p (slice_get all p) d left.0 ∙ ap (with_row ms kept p (slice_get all p)) inv.made
-          ∙ ap (λ x. with_row ms kept x (slice_get all x) (gathered ms kept all (take i order))) is
+          ∙ ap (λ x. with_row ms kept x (slice_get all x) (collected ms kept all (take i order))) is
           ∙ sym (fold_more (λ (e : DecidedView) (n : ℕ). with_row ms kept n (slice_get all n) e) nothing_decided order i 0 h);
       left = still_same rows now kept p (drop (i + 1) order) others once.0 left.1;
       once = once.1;
@@ -156,4 +157,4 @@ gather_more ms all order kept i p rows now d new h is added others inv =
 
 pub gather_all : (ms : List Meaning) (all : List ResourceRefView) (order : List ℕ) (kept : ℕ → DecidedView) (i : ℕ) (rows : ℕ → DecidedView) (d : DecidedView) → length order ≤ i → AreGathered ms all order kept i rows d
     → d ≡ gathered ms kept all order
-gather_all ms all order kept i rows d h inv = inv.made ∙ ap (gathered ms kept all) (take_all i order h)
+gather_all ms all order kept i rows d h inv = inv.made ∙ ap (collected ms kept all) (take_all i order h) ∙ collected_is ms kept all order

@@ -8,17 +8,20 @@ use Rattle.tf_config_address.specs.ObjectId.{InstanceKeyView, ObjectIdView, inst
 use Rattle.tf_config_address.specs.Same.{object_id_Decides, same_instance_key}
 use Rattle.tf_plan_object.specs.Instance.{InstanceFaultView, instance_object}
 use Rattle.tf_config_data.specs.Config.{BlockView, LifecycleView}
-use Rattle.tf_plan_decision.specs.Deciding.{DecidedView, OfView, version_of, with_block, with_members, with_outcome}
+use Rattle.tf_plan_decision.proofs.Appending.{members_collected}
+use Rattle.tf_plan_decision.specs.Collecting.{with_members, with_outcome, with_settled}
+use Rattle.tf_plan_decision.specs.Deciding.{DecidedView, OfView, decisions_on, of_at, version_of}
 use Rattle.tf_plan_decision.specs.Outcome.{OutcomeView, by_decision, by_removal, declared_outcome, member_outcome, removal_outcome}
-use Rattle.tf_plan_decision.specs.Settling.{SettledView, all_free, asked_by, settled_from, settled_key, settled_object, settled_of, settled_standing, stood_for, with_settled}
+use Rattle.tf_plan_decision.specs.Settling.{SettledView, all_free, asked_by, settled_from, settled_key, settled_object, settled_of, settled_standing, stood_for}
 use Rattle.tf_plan_decision.specs.Stage.{all_can_go, block_members, block_standing, decided_object, object_beside, object_of, object_unless_refused, records_at, stays_or_goes}
 use Rattle.tf_plan_decision.specs.Steps.{current_steps, deposed_step, destroy_if_deposed}
-use Rattle.tf_plan_decision.specs.Whole.{nothing_decided}
+use Rattle.tf_plan_decision.specs.Rows.{nothing_decided}
 use Rattle.tf_plan_decision.specs.declared.settling.Settled.{Settled}
 use Rattle.tf_plan_decision.specs.Decision as decision
 use Rattle.tf_plan_decision.specs.Decision.{DecisionView, DecisionFaultView, current, decided, removal_fault, unless_prevented, unless_unfit}
 use Rattle.tf_plan_decision.specs.Ignored.{heeding, ignored_fault}
 use Rattle.tf_plan_decision.specs.Prior.{PriorFaultView, first_unfit}
+use Rattle.tf_plan_decision.specs.Whole.{block_instances}
 use Rattle.tf_expand_keys.specs.InstanceKeys.{InstanceKeysView, one, many, named, instance_keys, list_of, map_under, objects_at}
 use Rattle.tf_expand_keys.specs.Resolved.{ResolvedView, together}
 use Rattle.tf_expr_eval.specs.Environment.{Environment}
@@ -223,11 +226,12 @@ module _ (ms : List Meaning) (resources : List ResourceView) (n : ℕ) (block : 
       h ∙ (ap (settled_standing shape) settled ∙ (ap (λ (o : Option SchemaView). settled_standing shape (settled_from (member_outcome o block env) 0 (block_members shape block resources))) same ∙ settled_stands block env ms resources n shape))
   standing_by false s h = h
 
-  pub decided_by : (version : ℕ) (d start : DecidedView) → version ≡ version_of found → start ≡ nothing_decided → d ≡ with_settled (record { resource = n; addr = block.addr; version = version }) all start → d ≡ with_block ms resources n block env shape nothing_decided
+  pub decided_by : (version : ℕ) (d start : DecidedView) → version ≡ version_of found → start ≡ nothing_decided → d ≡ with_settled (record { resource = n; addr = block.addr; version = version }) all start → d ≡ decisions_on (block_instances ms resources n block env shape)
   decided_by version d start versioned starts h =
       let members = block_members shape block resources in
       h ∙ (ap (with_settled (record { resource = n; addr = block.addr; version = version }) all) starts
       ∙ (ap (λ (xs : List SettledView). with_settled (record { resource = n; addr = block.addr; version = version }) xs nothing_decided) settled
       ∙ (with_settled_from (member_outcome found block env) (record { resource = n; addr = block.addr; version = version }) 0 members nothing_decided
       ∙ (ap (λ (v : ℕ). with_members (record { resource = n; addr = block.addr; version = v }) (member_outcome found block env) 0 members nothing_decided) versioned
-      ∙ ap (λ (o : Option SchemaView). with_members (record { resource = n; addr = block.addr; version = version_of o }) (member_outcome o block env) 0 members nothing_decided) same))))
+      ∙ ap (λ (o : Option SchemaView). with_members (record { resource = n; addr = block.addr; version = version_of o }) (member_outcome o block env) 0 members nothing_decided) same
+      ∙ members_collected (of_at ms n block.addr) (member_outcome (schema_in block.addr.type_name ms) block env) members nothing_decided))))

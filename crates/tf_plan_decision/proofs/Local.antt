@@ -5,11 +5,12 @@ use Rattle.tf_config_address.specs.ObjectId.{InstanceKeyView}
 use Rattle.tf_plan_object.proofs.Locals.{instances_local}
 use Rattle.tf_config_data.specs.Config.{BlockView}
 use Rattle.tf_config_data.specs.Names.{block_refers}
-use Rattle.tf_plan_decision.specs.Deciding.{DecidedView, version_of, with_block, with_members}
+use Rattle.tf_plan_decision.specs.Deciding.{instance_outcomes, of_at}
 use Rattle.tf_plan_decision.specs.Locality.{DecidingIsLocal}
 use Rattle.tf_plan_decision.specs.Outcome.{by_decision, member_outcome, removal_outcome}
 use Rattle.tf_plan_decision.specs.Stage.{all_can_go, block_members, decided_object, object_of, object_unless_refused, records_at}
 use Rattle.tf_plan_decision.specs.Decision.{decision}
+use Rattle.tf_plan_decision.specs.Whole.{block_instances}
 use Rattle.tf_expand_keys.proofs.Locals.{together_same}
 use Rattle.tf_expr_eval.proofs.Locality.{expressions_local}
 use Rattle.tf_expr_eval.specs.Environment.{Environment}
@@ -43,9 +44,9 @@ outcome_local (Some schema) block e f m agree =
     ap (λ planned. if m.is_declared then by_decision m.records (decision schema block.lifecycle m.records planned) else removal_outcome schema (Some block.lifecycle) m)
     (instances_local expressions_local schema block m.key e f agree)
 
-pub block_local : (ms : List Meaning) (resources : List ResourceView) (n : ℕ) (block : BlockView) (e f : Environment) (shape : InstanceKeysView) (d : DecidedView) → AgreeOn e f (block_refers block)
-    → with_block ms resources n block e shape d ≡ with_block ms resources n block f shape d
-block_local ms resources n block e f shape d agree =
+pub block_local : (ms : List Meaning) (resources : List ResourceView) (n : ℕ) (block : BlockView) (e f : Environment) (shape : InstanceKeysView) → AgreeOn e f (block_refers block)
+    → block_instances ms resources n block e shape ≡ block_instances ms resources n block f shape
+block_local ms resources n block e f shape agree =
     let schema = schema_in block.addr.type_name ms in
     let each = λ (m : InstanceToPlanView). outcome_local schema block e f m agree in
-    (λ i. with_members (record { resource = n; addr = block.addr; version = version_of schema }) (λ m. each m i) 0 (block_members shape block resources) d)
+    (λ i. instance_outcomes (of_at ms n block.addr) (λ m. each m i) (block_members shape block resources))

@@ -1,5 +1,5 @@
 -- What is looked at at one place.
-use Rattle.std.proofs.Common.{◌≡◌, ℕ, Bool, true, false, if◌then◌else◌, List, Option, Some, None, Result, IfOk, option_map, refl, sym, ap, ◌∙◌, arith}
+use Rattle.std.proofs.Common.{◌≡◌, ℕ, Bool, true, false, if◌then◌else◌, List, [], Option, Some, None, Result, IfOk, option_map, refl, sym, ap, ◌∙◌, arith}
 use Rattle.std.proofs.Math.ListN.{get_or-map}
 use Rattle.std.specs.Borrow.{Bor}
 use Rattle.std.specs.Option.{unwrap_or}
@@ -14,10 +14,10 @@ use Rattle.tf_expand_keys.specs.Words.{seen_by}
 use Rattle.tf_expand_keys.specs.declared.shape.InstanceKeys.{InstanceKeys}
 use Rattle.tf_expand_keys.specs.declared.shape.InstanceKeys.TheVariants.{One}
 use Rattle.tf_expand_keys.specs.declared.table.ModuleParts.{ModuleParts}
-use Rattle.tf_plan_decision.specs.Deciding.{decided_of, with_block}
-use Rattle.tf_plan_decision.specs.Rows.{row}
+use Rattle.tf_plan_decision.specs.Deciding.{decided_of, decisions_on}
+use Rattle.tf_plan_decision.specs.Rows.{nothing_decided, row}
 use Rattle.tf_plan_decision.specs.Stage.{deciding}
-use Rattle.tf_plan_decision.specs.Whole.{nothing_decided}
+use Rattle.tf_plan_decision.specs.Whole.{block_instances}
 use Rattle.tf_plan_decision.specs.declared.planned_values.Looked.{Looked}
 use Rattle.tf_provider_protocol.specs.Meaning.{Meaning}
 use Rattle.tf_state_data.specs.Resource.{ResourceView}
@@ -39,7 +39,7 @@ pub nothing_in_row : (ms : List Meaning) (resources : List ResourceView) (variab
 nothing_in_row ms resources variables names shapes kept p None refused = refl
 nothing_in_row ms resources variables names shapes kept p (Some (a_local e)) refused = refl
 nothing_in_row ms resources variables names shapes kept p (Some (a_block block)) refused =
-    ap (λ (all : Bool). if all then with_block ms resources p block (environment variables names kept) (shapes p) nothing_decided else nothing_decided) (sym refused)
+    ap (λ (all : Bool). decisions_on (if all then block_instances ms resources p block (environment variables names kept) (shapes p) else [])) (sym refused)
 
 -- what is found of the name at a place of a module
 pub record IsLooked (ms : List Meaning) (resources : List ResourceView) (shapes : ℕ → InstanceKeysView) (kept : ℕ → ResolvedView) (p : ℕ) (is_wanted : Bool) (result : Result Looked AllocError) (m : ModuleParts) : Type 0 where

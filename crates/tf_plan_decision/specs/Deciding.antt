@@ -1,34 +1,19 @@
--- The decisions about all members of resources: actions and refusals, each in order.
-use Rattle.std.specs.Prelude.{ℕ, ◌+◌, List, [], ◌∷◌, ◌++◌, map, Option, Ok, Err}
+-- The instances that a plan is about, each with its outcome, and the actions and refusals that these outcomes give.
+use Rattle.std.specs.Prelude.{ℕ, List, [], ◌∷◌, map, Option, Ok, Err}
+use Rattle.std.specs.List.{enumerate_from, flat_map}
 use Rattle.std.specs.Option.{option_map_or}
 use Rattle.tf_plan_data.specs.Action.{ActionView, StepView, action_of}
 use Rattle.tf_config_address.specs.ResourceAddr.{ResourceAddrView, addr_of}
 use Rattle.tf_config_address.specs.ObjectId.{InstanceKeyView, instance_key_of}
-use Rattle.tf_config_data.specs.Config.{BlockView}
-use Rattle.tf_plan_decision.specs.Outcome.{OutcomeView, member_outcome, orphan_outcome}
-use Rattle.tf_plan_decision.specs.Stage.{block_members}
+use Rattle.tf_plan_decision.specs.Outcome.{OutcomeView}
 use Rattle.tf_plan_decision.specs.Answer.{decision_fault_of}
 use Rattle.tf_plan_decision.specs.Decision.{DecisionFaultView}
 use Rattle.tf_plan_decision.specs.declared.collecting.Decided.{Decided}
 use Rattle.tf_plan_decision.specs.declared.collecting.OutcomeOf.{OutcomeOf}
 use Rattle.tf_plan_decision.specs.declared.collecting.RefusedInstance.{RefusedInstance}
-use Rattle.tf_expand_keys.specs.InstanceKeys.{InstanceKeysView}
-use Rattle.tf_expr_eval.specs.Environment.{Environment}
-use Rattle.tf_plan_order.specs.Members.{InstanceToPlanView, members}
+use Rattle.tf_plan_order.specs.Members.{InstanceToPlanView}
 use Rattle.tf_provider_protocol.specs.Meaning.{Meaning, schema_in}
 use Rattle.tf_provider_protocol.specs.Schema.{SchemaView}
-use Rattle.tf_state_data.specs.Resource.{ResourceView}
-
--- a refused instance, and why it is refused
-pub record RefusedInstanceView : Type 0 where
-  pub addr : ResourceAddrView
-  pub key : InstanceKeyView
-  pub why : DecisionFaultView
-
--- actions and refusals
-pub record DecidedView : Type 0 where
-  pub actions : List ActionView
-  pub refusals : List RefusedInstanceView
 
 -- a resource as its actions name it: by its number and its address, with the version of the schema of its type
 pub record OfView : Type 0 where
@@ -36,35 +21,67 @@ pub record OfView : Type 0 where
   pub addr : ResourceAddrView
   pub version : ℕ
 
+-- An instance of a resource, by its number among the resource's instances and its key, with its outcome.
+pub record InstanceOutcomeView : Type 0 where
+  pub of : OfView
+  pub instance : ℕ
+  pub key : InstanceKeyView
+  pub outcome : OutcomeView
+
+-- ---- what an outcome gives
+
+-- the steps of an instance; a refused instance has no steps
+abbrev pub steps_in : OutcomeView → List StepView
+steps_in (Ok steps) = steps
+steps_in (Err why) = []
+
+-- the fault of an instance that is refused
+abbrev pub fault_in : OutcomeView → List DecisionFaultView
+fault_in (Ok steps) = []
+fault_in (Err why) = why ∷ []
+
 -- a step as the action of an instance, which is named by its number and its key
 abbrev pub action : OfView → ℕ → InstanceKeyView → StepView → ActionView
 action of i key step = record { resource = of.resource; instance = i; addr = of.addr; key = key; step = step; version = of.version }
 
--- what is decided so far with the outcome of one more instance: its actions, or its refusal
-abbrev pub with_outcome : OfView → ℕ → InstanceKeyView → OutcomeView → DecidedView → DecidedView
-with_outcome of i key (Ok steps) d = record { actions = d.actions ++ map (action of i key) steps; refusals = d.refusals }
-with_outcome of i key (Err why) d = record { actions = d.actions; refusals = d.refusals ++ record { addr = of.addr; key = key; why = why } ∷ [] }
+-- the actions of an instance: its steps, in their order
+abbrev pub instance_actions : InstanceOutcomeView → List ActionView
+instance_actions i = map (action i.of i.instance i.key) (steps_in i.outcome)
 
--- what is decided so far with the outcomes of members, which are numbered in order from one number on
-abbrev pub with_members : OfView → (InstanceToPlanView → OutcomeView) → ℕ → List InstanceToPlanView → DecidedView → DecidedView
-with_members of becomes i [] d = d
-with_members of becomes i (m ∷ ms) d = with_members of becomes (i + 1) ms (with_outcome of i m.key (becomes m) d)
+-- a refused instance, and why it is refused
+pub record RefusedInstanceView : Type 0 where
+  pub addr : ResourceAddrView
+  pub key : InstanceKeyView
+  pub why : DecisionFaultView
+
+-- the refusal of an instance, if it is refused
+abbrev pub instance_refusals : InstanceOutcomeView → List RefusedInstanceView
+instance_refusals i = map (λ why. record { addr = i.of.addr; key = i.key; why = why }) (fault_in i.outcome)
+
+-- ---- the instances of a resource
 
 -- the version of a schema, or 0 if there is none, and then no action has it
 abbrev pub version_of : Option SchemaView → ℕ
 version_of schema = option_map_or (λ s. s.version) schema 0
 
--- What is decided so far with the members of a configured resource, numbered from 0 on.
-abbrev pub with_block : List Meaning → List ResourceView → ℕ → BlockView → Environment → InstanceKeysView → DecidedView → DecidedView
-with_block ms resources n block env shape d =
-    let schema = schema_in block.addr.type_name ms in
-    with_members (record { resource = n; addr = block.addr; version = version_of schema }) (member_outcome schema block env) 0 (block_members shape block resources) d
+-- the resource with a number and an address, as its actions name it
+abbrev pub of_at : List Meaning → ℕ → ResourceAddrView → OfView
+of_at ms n addr = record { resource = n; addr = addr; version = version_of (schema_in addr.type_name ms) }
 
--- What is decided so far with the members of an orphan, numbered from 0 on.
-abbrev pub with_orphan : List Meaning → ℕ → ResourceView → DecidedView → DecidedView
-with_orphan ms n r d =
-    let schema = schema_in r.addr.type_name ms in
-    with_members (record { resource = n; addr = r.addr; version = version_of schema }) (orphan_outcome schema) 0 (members [] r.records) d
+-- The members of a resource with their outcomes. A member's number is its place among them.
+abbrev pub instance_outcomes : OfView → (InstanceToPlanView → OutcomeView) → List InstanceToPlanView → List InstanceOutcomeView
+instance_outcomes of becomes all = map (λ m. record { of = of; instance = m.0; key = m.1.key; outcome = becomes m.1 }) (enumerate_from 0 all)
+
+-- ---- as plain data
+
+-- actions and refusals
+pub record DecidedView : Type 0 where
+  pub actions : List ActionView
+  pub refusals : List RefusedInstanceView
+
+-- the actions and the refusals of instances
+abbrev pub decisions_on : List InstanceOutcomeView → DecidedView
+decisions_on all = record { actions = flat_map instance_actions all; refusals = flat_map instance_refusals all }
 
 -- a refused instance as plain data
 abbrev pub refused_of : RefusedInstance → RefusedInstanceView

@@ -1,4 +1,5 @@
 pub mod Answer
+pub mod Collecting
 pub mod Deciding
 pub mod Decision
 pub mod Differing

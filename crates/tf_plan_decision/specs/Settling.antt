@@ -3,7 +3,6 @@ use Rattle.std.specs.Prelude.{ℕ, ◌+◌, Bool, ◌||◌, if◌then◌else◌,
 use Rattle.std.specs.List.{list_all}
 use Rattle.std.specs.Option.{option_or}
 use Rattle.tf_config_address.specs.ObjectId.{InstanceKeyView, instance_key_cmp}
-use Rattle.tf_plan_decision.specs.Deciding.{DecidedView, OfView, with_outcome}
 use Rattle.tf_plan_decision.specs.Outcome.{OutcomeView}
 use Rattle.tf_plan_decision.specs.Views.{outcome_of}
 use Rattle.tf_plan_decision.specs.declared.settling.Settled.{Settled}
@@ -31,11 +30,6 @@ settled_of s = record { instance = s.instance; member = member_of s.member.now; 
 abbrev pub settled_from : (InstanceToPlanView → OutcomeView) → ℕ → List InstanceToPlanView → List SettledView
 settled_from becomes i [] = []
 settled_from becomes i (m ∷ ms) = record { instance = i; member = m; outcome = becomes m } ∷ settled_from becomes (i + 1) ms
-
--- what is decided so far with the outcomes of these members
-abbrev pub with_settled : OfView → List SettledView → DecidedView → DecidedView
-with_settled of [] d = d
-with_settled of (s ∷ ss) d = with_settled of ss (with_outcome of s.instance s.member.key s.outcome d)
 
 -- the object that a step asks for
 abbrev pub asked_in : StepView → Option Tree

@@ -3,12 +3,13 @@
 ghost use Rattle.std.specs.Prelude.{◌≡◌, ◌++◌, IfOk, OnOk, map, option_map};
 ghost use Rattle.tf_plan_data.specs.Action.{action_of};
 ghost use Rattle.tf_expand_keys.specs.Words.{instance_key_of};
-ghost use Rattle.tf_plan_decision.specs.Deciding.{action, decided_of, of_view, version_of, with_members, with_orphan, with_outcome};
+ghost use Rattle.tf_plan_decision.specs.Collecting.{with_members, with_outcome, with_settled};
+ghost use Rattle.tf_plan_decision.specs.Deciding.{action, decided_of, decisions_on, of_view, version_of};
 ghost use Rattle.tf_plan_decision.specs.Outcome.{orphan_outcome};
-ghost use Rattle.tf_plan_decision.specs.Rows.{followed_by};
-ghost use Rattle.tf_plan_decision.specs.Settling.{settled_of, with_settled};
+ghost use Rattle.tf_plan_decision.specs.Rows.{followed_by, nothing_decided};
+ghost use Rattle.tf_plan_decision.specs.Settling.{settled_of};
 ghost use Rattle.tf_plan_decision.specs.Views.{outcome_of, steps_of};
-ghost use Rattle.tf_plan_decision.specs.Whole.{nothing_decided};
+ghost use Rattle.tf_plan_decision.specs.Whole.{orphan_instances};
 ghost use Rattle.tf_plan_order.specs.MemberViews.{member_of};
 ghost use Rattle.tf_plan_order.specs.Words.{resource_of};
 
@@ -108,7 +109,7 @@ impl Decided {
         orphan: &tf_state_data::Resource,
         providers: &[Box<dyn Provider + Sync>],
     ) -> Result<(), AllocError>
-        ensures { OnOk result (decided_of self.new ≡ with_orphan (map meaning providers.now) place (resource_of orphan.now) (decided_of self.old)) }
+        ensures { OnOk result (decided_of self.new ≡ followed_by (decided_of self.old) (decisions_on (orphan_instances (map meaning providers.now) place (resource_of orphan.now)))) }
     {
         let schema = schema_for(providers, orphan.addr().type_name.as_str());
         let members = members(alloc, &[], orphan.records())?;

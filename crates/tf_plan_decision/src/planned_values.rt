@@ -2,9 +2,9 @@
 
 ghost use Rattle.std.specs.Prelude.{◌≡◌, if◌then◌else◌, IfOk, map, None};
 ghost use Rattle.tf_expand_keys.specs.Words.{block_at, addr_of, shape_of, resolved_of};
-ghost use Rattle.tf_plan_decision.specs.Deciding.{decided_of, with_block};
+ghost use Rattle.tf_plan_decision.specs.Deciding.{decided_of, decisions_on};
 ghost use Rattle.tf_plan_decision.specs.Stage.{block_members, block_standing};
-ghost use Rattle.tf_plan_decision.specs.Whole.{nothing_decided};
+ghost use Rattle.tf_plan_decision.specs.Whole.{block_instances};
 ghost use Rattle.tf_plan_order.specs.MemberViews.{member_of};
 ghost use Rattle.tf_state_data.specs.State.{state_of};
 
@@ -55,8 +55,8 @@ pub(crate) fn decide_block<S: Scope>(
         (block_at (addr_of resource.now.addr.now) resource.now.block.now) (S.environment resource.now.scope.now)
         else None)) }
     ensures decided { IfOk result (λ looked. decided_of looked.decided
-        ≡ with_block (map meaning stage.now.providers.now) (state_of stage.now.state.now).resources resource.now.place
-        (block_at (addr_of resource.now.addr.now) resource.now.block.now) (S.environment resource.now.scope.now) (shape_of shape.now) nothing_decided) }
+        ≡ decisions_on (block_instances (map meaning stage.now.providers.now) (state_of stage.now.state.now).resources resource.now.place
+        (block_at (addr_of resource.now.addr.now) resource.now.block.now) (S.environment resource.now.scope.now) (shape_of shape.now))) }
 {
     let schema = schema_for(stage.providers, resource.addr.type_name.as_str());
     let members = block_members(alloc, stage.state, shape, resource.addr, resource.block)?;

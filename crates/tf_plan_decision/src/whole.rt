@@ -2,15 +2,15 @@
 
 ghost use Rattle.std.specs.Prelude.{◌≡◌, ◌≢◌, ◌<◌, ℕ, Contains, if◌then◌else◌, IfOk, None, OnOk, Some, length, map, slice_get};
 ghost use Rattle.tf_config_data.specs.Names.{directly_before, meant_at};
+ghost use Rattle.tf_plan_decision.specs.Collecting.{with_row};
 ghost use Rattle.tf_plan_decision.specs.Deciding.{decided_of};
-ghost use Rattle.tf_plan_decision.specs.Rows.{AreDecided, AreOnce, gathered, NeedsAreWanted, row, rows_of, with_row};
+ghost use Rattle.tf_plan_decision.specs.Rows.{AreDecided, AreOnce, gathered, NeedsAreWanted, nothing_decided, row, rows_of};
 ghost use Rattle.tf_plan_decision.specs.Stage.{deciding};
 ghost use Rattle.tf_expand_keys.specs.Kept.{AreClosed};
 ghost use Rattle.tf_expand_keys.specs.Resolved.{all_stand as all_that_stand, stands_at, where_all};
 ghost use Rattle.tf_expand_keys.specs.Words.{entries_view, environment, has, AreResolved, IsInOrder, names_in, order_in, seen_by, shapes_of, resolved_of, resolved_names_of};
 ghost use Rattle.tf_expr_eval.specs.ExprMeaning.{meaning as meaning_of};
 ghost use Rattle.tf_expr_syntax.specs.ExprTree.{tree_of};
-ghost use Rattle.tf_plan_decision.specs.Whole.{nothing_decided};
 ghost use Rattle.tf_plan_order.specs.Table.{numbered_in};
 ghost use Rattle.tf_state_data.specs.State.{state_of};
 

@@ -13,9 +13,9 @@ use Rattle.tf_config_address.specs.ResourceAddr.{ResourceAddrView, addr_cmp}
 use Rattle.tf_plan_order.specs.AddressOrder.{is_resource}
 use Rattle.tf_config_data.specs.Names.{NameView, Meant, a_local, a_block, meant_at, directly_before}
 use Rattle.tf_plan_decision.proofs.Standing.{named_within}
+use Rattle.tf_plan_decision.specs.Deciding.{of_at}
 use Rattle.tf_plan_decision.specs.Outcome.{member_outcome, orphan_outcome}
 use Rattle.tf_plan_decision.specs.Stage.{block_members, records_at}
-use Rattle.tf_plan_decision.specs.Whole.{decided}
 use Rattle.tf_expand_keys.specs.InstanceKeys.{InstanceKeysView, instance_keys}
 use Rattle.tf_expand_keys.specs.Resolved.{ResolvedView, all_stand, environment}
 use Rattle.tf_expand_keys.specs.Expanding.{instances_before}
@@ -26,12 +26,12 @@ use Rattle.tf_plan_planner.proofs.About.{resource-about, resource-distinct}
 use Rattle.tf_plan_planner.proofs.Blocks.{placed-at}
 use Rattle.tf_plan_planner.proofs.Counting.{instances-numbered}
 use Rattle.tf_plan_planner.proofs.Distinct.{AreDistinct, all-contained, at-contained, distinct-at, distinct-flat, in_filter, in_map}
-use Rattle.tf_plan_planner.proofs.Listing.{block_actions, decided-actions, meant_actions, of_at, orphan_actions, place_actions}
+use Rattle.tf_plan_planner.proofs.Listing.{block_actions, listed-actions, meant_actions, orphan_actions, place_actions}
 use Rattle.tf_plan_planner.proofs.Members.{IsOfResource, all-append, member-distinct, members-fit, members-numbered, orphan-distinct, orphans-fit}
 use Rattle.tf_plan_planner.proofs.Objects.{deposed-distinct}
 use Rattle.tf_plan_planner.proofs.Ranges.{places-distinct}
 use Rattle.tf_plan_planner.specs.Plan.{IsPlannedFrom}
-use Rattle.tf_plan_planner.specs.Planned.{AreInstances, IsPlanned, PlannedView, unrefused}
+use Rattle.tf_plan_planner.specs.Planned.{AreInstances, IsPlanned, unrefused}
 use Rattle.tf_plan_data.specs.Fits.{AboutView, about, AreApart, IsDeclared, IsPlaced}
 use Rattle.tf_plan_data.specs.Served.{AreServed, IsServedBy}
 use Rattle.tf_provider_protocol.specs.Meaning.{Meaning, schema_in}
@@ -228,8 +228,7 @@ plan-fits ms resources variables names outputs shapes actions instances planned 
     let few = instances.expanded.few in
     let apart = resources-apart names resources blocks by_address in
     let once : AreDistinct planned.places = places-distinct (is_resource all) (length all) planned.places planned.in_order.each in
-    let made : (decided ms resources variables names shapes planned.resolved_names all planned.places).actions ≡ actions = ap (λ (p : PlannedView). p.actions) planned.decided in
-    let same = sym (decided-actions ms resources variables names shapes planned.resolved_names all planned.places) ∙ made in
+    let same = sym (planned.actions ∙ listed-actions ms resources variables names shapes planned.resolved_names planned.places) in
     let fit : AllByRecursion (FitsAll ms names all) actions =
     subst (AllByRecursion (FitsAll ms names all)) same (all-fit ms resources variables names shapes planned.resolved_names by_id apart few planned.places) in
     record {

@@ -1,5 +1,5 @@
 -- Where the wanted names stand for the same, the same is planned.
-use Rattle.std.proofs.Common.{◌≡◌, ◌≢◌, ◌∙◌, ◌++◌, ◌∷◌, ℕ, Some, length, Result, Ok, Err, IfOk, List, [], map, if◌then◌else◌, refl, sym, ap, subst, inl, inr}
+use Rattle.std.proofs.Common.{◌≡◌, ◌≢◌, ◌∙◌, ◌++◌, ◌∷◌, ℕ, Some, length, Result, Ok, Err, IfOk, List, [], map, if◌then◌else◌, refl, ap, subst, inl, inr}
 use Rattle.std.specs.List.{AllByRecursion}
 use Rattle.std.specs.Prelude.{Contains, slice_get}
 use Rattle.std.specs.declared.alloc.AllocError.{AllocError}
@@ -23,9 +23,10 @@ use Rattle.tf_config_names.specs.declared.dependence.Dependence.{Dependence}
 use Rattle.tf_plan_planner.proofs.Existing.{some_standings}
 use Rattle.tf_plan_planner.proofs.Distinct.{AreDistinct}
 use Rattle.tf_plan_planner.proofs.Fitting.{name-stands}
+use Rattle.tf_plan_planner.proofs.Listing.{planned_in}
 use Rattle.tf_plan_planner.proofs.Ranges.{places-distinct}
 use Rattle.tf_plan_planner.specs.Outputs.{output_fault, output_refusal, output_refusals}
-use Rattle.tf_plan_planner.specs.Planned.{IsPlanned, planned_in, planned_of, with_outputs}
+use Rattle.tf_plan_planner.specs.Planned.{IsPlanned, PlannedView, planned_of, with_outputs}
 use Rattle.tf_plan_planner.specs.Told.{instance_told}
 use Rattle.tf_plan_planner.specs.Wanted.{IsWanted}
 use Rattle.tf_plan_planner.specs.declared.deciding.PlannedInstances.{PlannedInstances}
@@ -66,7 +67,7 @@ module _ (variables : Entries) (names : List NameView) (d : Dependence) (outputs
 
   planned-looked : (order : List ℕ) → with_outputs variables names kept outputs (gathered ms rows (numbered names resources) order) ≡ planned_in ms resources variables names outputs shapes order resolved_names
   planned-looked order =
-      let decides = gathered_is ms resources variables names shapes resolved_names rows (numbered names resources) row-right order in
+      let decides = gathered_is ms resources variables names shapes resolved_names rows row-right order in
       let told = outputs-looked variables names kept resolved_names outputs (all_by_contained (λ a. kept a ≡ resolved_names a) (places names (named_below outputs)) (λ a held. same a (inr (inl held)))) in
       (λ i. record { actions = (decides i).actions; refusals = map instance_told (decides i).refusals ++ told i })
 
@@ -78,12 +79,14 @@ pub planned-is : (ms : List Meaning) (resources : List ResourceView) (variables 
     → IfOk result (λ p. planned_of p ≡ with_outputs variables names kept outputs (gathered ms rows (numbered names resources) order)) → IfOk result (λ p. IsPlanned ms resources variables names outputs shapes (planned_of p))
 planned-is ms resources variables names outputs shapes order kept rows d (Ok p) is acyclic sorted same done made =
     let found = some_standings (deciding ms resources shapes) variables names d is acyclic in
+    let planned = made ∙ planned-looked variables names d outputs is acyclic ms resources shapes kept rows found.0 found.1 (same found.0 found.1) done order in
     record {
       places = order;
       in_order = sorted;
       resolved_names = found.0;
       stand = found.1;
-      decided = sym (planned-looked variables names d outputs is acyclic ms resources shapes kept rows found.0 found.1 (same found.0 found.1) done order) ∙ sym made;
+      actions = ap (λ (p : PlannedView). p.actions) planned;
+      refusals = ap (λ (p : PlannedView). p.refusals) planned;
     }
 planned-is ms resources variables names outputs shapes order kept rows d (Err e) is acyclic sorted same done made = made
 

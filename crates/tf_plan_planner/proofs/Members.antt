@@ -10,14 +10,14 @@ use Rattle.tf_config_address.specs.Same.{same_instance_key}
 use Rattle.tf_plan_object.specs.Instance.{instance_object}
 use Rattle.tf_config_data.specs.Config.{BlockView}
 use Rattle.tf_config_data.specs.Names.{NameView, a_block, meant_at}
-use Rattle.tf_plan_decision.specs.Deciding.{action}
+use Rattle.tf_plan_decision.specs.Deciding.{action, of_at}
 use Rattle.tf_plan_decision.specs.Outcome.{by_decision, by_removal, declared_outcome, member_outcome, orphan_outcome, removal_outcome}
 use Rattle.tf_plan_decision.specs.Steps.{decided_steps, removal_steps}
 use Rattle.tf_plan_decision.specs.Decision.{DecisionView, DecisionFaultView, decision, removal_fault}
 use Rattle.tf_expr_eval.specs.Environment.{Environment}
 use Rattle.tf_plan_order.specs.Members.{InstanceToPlanView, is_among, member, members, all_keys}
 use Rattle.tf_plan_planner.proofs.Distinct.{AreDistinct}
-use Rattle.tf_plan_planner.proofs.Listing.{member_actions, of_at, outcome_actions}
+use Rattle.tf_plan_planner.proofs.Listing.{member_actions, outcome_actions}
 use Rattle.tf_plan_planner.proofs.Objects.{one_key}
 use Rattle.tf_plan_planner.proofs.Steps.{decided-distinct, deposed_of, removal-destroys, removal-distinct}
 use Rattle.tf_plan_planner.proofs.About.{outcome_signs}

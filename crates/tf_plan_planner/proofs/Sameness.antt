@@ -1,11 +1,11 @@
 -- Where each name stands for the same, the same is planned.
 use Rattle.std.proofs.Common.{◌≡◌, ◌<◌, ◌++◌, ℕ, Option, Some, None, List, [], ◌∷◌, map, length, if◌then◌else◌, refl, ap}
-use Rattle.std.specs.List.{AllByRecursion}
-use Rattle.std.specs.Prelude.{codes, fold, slice_get}
+use Rattle.std.specs.List.{AllByRecursion, flat_map}
+use Rattle.std.specs.Prelude.{codes, slice_get}
 use Rattle.std.specs.Str.{bytes_eq}
 use Rattle.tf_config_data.specs.Names.{NameView, Meant, a_local, a_block, meant_at, refers_at, directly_before, place_before, place_of, places}
-use Rattle.tf_plan_decision.specs.Deciding.{DecidedView, with_block}
-use Rattle.tf_plan_decision.specs.Whole.{decided, nothing_decided, with_meant, with_numbered}
+use Rattle.tf_plan_decision.specs.Deciding.{instance_actions, instance_refusals}
+use Rattle.tf_plan_decision.specs.Whole.{block_instances, instances, instances_at, name_instances}
 use Rattle.tf_expand_keys.proofs.Places.{all_places}
 use Rattle.tf_expand_keys.specs.InstanceKeys.{InstanceKeysView}
 use Rattle.tf_expand_keys.specs.Resolved.{ResolvedView, all_stand, answer_at, environment, or_missing}
@@ -13,8 +13,8 @@ use Rattle.tf_expr_eval.specs.ExprMeaning.{meaning}
 use Rattle.tf_graph.proofs.Solving.{seen_by-same}
 use Rattle.tf_graph.specs.Solutions.{seen_by}
 use Rattle.tf_expr_operators.specs.Answer.{Answer, present_value}
+use Rattle.tf_plan_planner.proofs.Listing.{planned_in}
 use Rattle.tf_plan_planner.specs.Outputs.{output_fault, output_refusal, output_refusals}
-use Rattle.tf_plan_planner.specs.Planned.{planned_in}
 use Rattle.tf_plan_planner.specs.Told.{instance_told}
 use Rattle.tf_provider_protocol.specs.Meaning.{Meaning}
 use Rattle.tf_plan_order.specs.ResourceIndex.{ResourceRefView, a_name, an_orphan, numbered}
@@ -42,17 +42,17 @@ module _ (variables : Entries) (names : List NameView) (kept resolved_names : �
   seen-same n = seen_by-same kept resolved_names (directly_before names n) (all_places (λ a. kept a ≡ resolved_names a) names (refers_at (meant_at names n)) same)
 
   module _ (ms : List Meaning) (resources : List ResourceView) (shapes : ℕ → InstanceKeysView) where
-    meant-same : (n : ℕ) (m : Meant) (d : DecidedView) → with_meant ms resources variables names shapes kept n m d ≡ with_meant ms resources variables names shapes resolved_names n m d
-    meant-same n (a_local e) d = refl
-    meant-same n (a_block block) d = (λ i. if all_stand (seen-same n i) then with_block ms resources n block (environment-same i) (shapes n) d else d)
+    meant-same : (n : ℕ) (m : Meant) → name_instances ms resources variables names shapes kept n m ≡ name_instances ms resources variables names shapes resolved_names n m
+    meant-same n (a_local e) = refl
+    meant-same n (a_block block) = (λ i. if all_stand (seen-same n i) then block_instances ms resources n block (environment-same i) (shapes n) else [])
 
-    numbered-same : (n : ℕ) (o : Option ResourceRefView) (d : DecidedView) → with_numbered ms resources variables names shapes kept n o d ≡ with_numbered ms resources variables names shapes resolved_names n o d
-    numbered-same n None d = refl
-    numbered-same n (Some (a_name name)) d = meant-same n name.meant d
-    numbered-same n (Some (an_orphan r)) d = refl
+    numbered-same : (n : ℕ) (o : Option ResourceRefView) → instances_at ms resources variables names shapes kept n o ≡ instances_at ms resources variables names shapes resolved_names n o
+    numbered-same n None = refl
+    numbered-same n (Some (a_name name)) = meant-same n name.meant
+    numbered-same n (Some (an_orphan r)) = refl
 
-    decided-same : (all : List ResourceRefView) (order : List ℕ) → decided ms resources variables names shapes kept all order ≡ decided ms resources variables names shapes resolved_names all order
-    decided-same all order = (λ i. fold (λ d n. numbered-same n (slice_get all n) d i) nothing_decided order)
+    instances-same : (order : List ℕ) → instances ms resources variables names shapes kept order ≡ instances ms resources variables names shapes resolved_names order
+    instances-same order = (λ i. flat_map (λ n. numbered-same n (slice_get (numbered names resources) n) i) order)
 
   output-same : (name : List ℕ) (e : expr.Tree) → output_refusal variables names kept name e ≡ output_refusal variables names resolved_names name e
   output-same name e =
@@ -67,6 +67,6 @@ module _ (variables : Entries) (names : List NameView) (kept resolved_names : �
   pub planned-same : (ms : List Meaning) (resources : List ResourceView) (outputs : expr.Entries) (shapes : ℕ → InstanceKeysView) (order : List ℕ)
       → planned_in ms resources variables names outputs shapes order kept ≡ planned_in ms resources variables names outputs shapes order resolved_names
   planned-same ms resources outputs shapes order =
-      let d = decided-same ms resources shapes (numbered names resources) order in
+      let all = instances-same ms resources shapes order in
       let told = outputs-same outputs in
-      (λ i. record { actions = (d i).actions; refusals = map instance_told (d i).refusals ++ told i })
+      (λ i. record { actions = flat_map instance_actions (all i); refusals = map instance_told (flat_map instance_refusals (all i)) ++ told i })

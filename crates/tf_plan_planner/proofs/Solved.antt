@@ -10,8 +10,9 @@ use Rattle.tf_expand_keys.specs.declared.repetition.RepetitionFault.{RepetitionF
 use Rattle.tf_expand_keys.specs.Expanding.{AreExpanded, AreTooMany, IsFirstRefused, expanded, shape_in}
 use Rattle.tf_graph.proofs.Solving.{solution-unique}
 use Rattle.tf_graph.specs.Solutions.{Ranked}
+use Rattle.tf_plan_planner.proofs.Listing.{planned-there, planned_in}
 use Rattle.tf_plan_planner.proofs.Sameness.{environment-same, planned-same, seen-same}
-use Rattle.tf_plan_planner.specs.Planned.{AreInstances, IsPlanned, PlannedView, planned_in}
+use Rattle.tf_plan_planner.specs.Planned.{AreInstances, IsPlanned, PlannedView}
 use Rattle.tf_provider_protocol.specs.Meaning.{Meaning}
 use Rattle.tf_state_data.specs.Resource.{ResourceView}
 use Rattle.tf_expr_syntax.specs.ExprTree as expr
@@ -62,7 +63,7 @@ module _ (variables : Entries) (names : List NameView) (ranked : Ranked (directl
   pub planned-by : (ms : List Meaning) (resources : List ResourceView) (outputs : expr.Entries) (shapes : ℕ → InstanceKeysView) (planned : PlannedView) (is : IsPlanned ms resources variables names outputs shapes planned) (resolved_names : ℕ → ResolvedView)
       → AreResolvedNames (deciding ms resources shapes) variables names resolved_names → planned_in ms resources variables names outputs shapes is.places resolved_names ≡ planned
   planned-by ms resources outputs shapes planned is resolved_names solves =
-      sym (planned-same variables names is.resolved_names resolved_names (resolved_names-same (deciding ms resources shapes) is.resolved_names resolved_names is.stand solves) ms resources outputs shapes is.places) ∙ is.decided
+      sym (planned-same variables names is.resolved_names resolved_names (resolved_names-same (deciding ms resources shapes) is.resolved_names resolved_names is.stand solves) ms resources outputs shapes is.places) ∙ sym (planned-there ms resources variables names outputs shapes planned is)
 
 -- the instances of a configuration are one
 pub same_shapes : (variables : Entries) (names : List NameView) (shapes others : ℕ → InstanceKeysView) → Ranked (directly_before names) → AreInstances variables names shapes → AreInstances variables names others

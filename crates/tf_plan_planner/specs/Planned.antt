@@ -1,11 +1,12 @@
 -- Actions and refusals for a configuration and a prior state.
 use Rattle.std.specs.Prelude.{◌≡◌, ℕ, List, [], ◌++◌, map}
+use Rattle.std.specs.List.{flat_map}
 use Rattle.tf_plan_data.specs.Action.{ActionView, action_of}
 use Rattle.tf_plan_order.specs.AddressOrder.{AreInAddressOrder}
 use Rattle.tf_config_data.specs.Names.{NameView}
-use Rattle.tf_plan_decision.specs.Deciding.{DecidedView}
+use Rattle.tf_plan_decision.specs.Deciding.{DecidedView, instance_actions, instance_refusals}
 use Rattle.tf_plan_decision.specs.Stage.{deciding}
-use Rattle.tf_plan_decision.specs.Whole.{decided}
+use Rattle.tf_plan_decision.specs.Whole.{instances}
 use Rattle.tf_expand_keys.specs.InstanceKeys.{InstanceKeysView}
 use Rattle.tf_expand_keys.specs.Stages.{expansion}
 use Rattle.tf_expand_keys.specs.Resolved.{ResolvedView, AreResolvedNames}
@@ -36,24 +37,22 @@ pub record AreInstances (variables : Entries) (names : List NameView) (shapes : 
   pub stand : AreResolvedNames expansion variables names resolved_names
   pub expanded : AreExpanded variables names resolved_names shapes
 
--- the actions that are decided, and the refusals: of instances in the order in which they were decided, then of outputs
+-- decided actions and refusals, followed by the refusals of outputs
 abbrev pub with_outputs : Entries → List NameView → (ℕ → ResolvedView) → expr.Entries → DecidedView → PlannedView
 with_outputs variables names resolved_names outputs d =
     record { actions = d.actions; refusals = map instance_told d.refusals ++ output_refusals variables names resolved_names outputs }
 
--- actions and refusals, with the resources in the order of these places
-abbrev pub planned_in : List Meaning → List ResourceView → Entries → List NameView → expr.Entries → (ℕ → InstanceKeysView) → List ℕ → (ℕ → ResolvedView) → PlannedView
-planned_in ms resources variables names outputs shapes places resolved_names =
-    with_outputs variables names resolved_names outputs (decided ms resources variables names shapes resolved_names (numbered names resources) places)
-
--- Actions and refusals for these instances and the resources of a state, by the resolved names of the plan's stage, and
--- with the resources of both in address order.
+-- Actions and refusals for these instances and the resources of a state, by the resolved names of the plan's stage. With
+-- the resources of both in address order, and the instances of each in the order of their keys, the actions are the
+-- steps of each instance, one instance after another. The refusals are the fault of each instance that is refused, one
+-- instance after another, and then those of outputs.
 pub record IsPlanned (ms : List Meaning) (resources : List ResourceView) (variables : Entries) (names : List NameView) (outputs : expr.Entries) (shapes : ℕ → InstanceKeysView) (planned : PlannedView) : Type 0 where
   pub places : List ℕ
   pub in_order : AreInAddressOrder (numbered names resources) places
   pub resolved_names : ℕ → ResolvedView
   pub stand : AreResolvedNames (deciding ms resources shapes) variables names resolved_names
-  pub decided : planned_in ms resources variables names outputs shapes places resolved_names ≡ planned
+  pub actions : planned.actions ≡ flat_map instance_actions (instances ms resources variables names shapes resolved_names places)
+  pub refusals : planned.refusals ≡ map instance_told (flat_map instance_refusals (instances ms resources variables names shapes resolved_names places)) ++ output_refusals variables names resolved_names outputs
 
 -- planned instances as plain data
 abbrev pub planned_of : PlannedInstances → PlannedView

@@ -1,6 +1,7 @@
 use Rattle.std.proofs.Common.{◌≡◌, drop, map, option_map}
 use Rattle.tf_plan_decision.proofs.collecting.add_gone.Given as goal
-use Rattle.tf_plan_decision.specs.Deciding.{decided_of, of_view, with_members}
+use Rattle.tf_plan_decision.specs.Collecting.{with_members}
+use Rattle.tf_plan_decision.specs.Deciding.{decided_of, of_view}
 use Rattle.tf_plan_decision.specs.Outcome.{orphan_outcome}
 use Rattle.tf_plan_order.specs.MemberViews.{member_of}
 
