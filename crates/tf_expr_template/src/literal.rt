@@ -9,7 +9,7 @@ use crate::scan::{Remainder, after, byte_at, cut, plain_len};
 use std::alloc::{AllocError, Global};
 
 /// The end of a stretch of literal text, and what follows it.
-#[derive(Clone, Copy, Debug)]
+#[derive(Clone, Copy)]
 pub(crate) enum LiteralEnd<'a> {
     /// The beginning of an interpolation.
     Opens(&'a str),
@@ -19,7 +19,7 @@ pub(crate) enum LiteralEnd<'a> {
     Wrong,
 }
 
-#[derive(Clone, Copy, Debug)]
+#[derive(Clone, Copy)]
 enum LiteralStep<'a> {
     // Literal text, and what follows it.
     Stands(&'a str, &'a str),
@@ -27,7 +27,7 @@ enum LiteralStep<'a> {
 }
 
 /// A stretch of literal text with its escapes resolved.
-#[derive(Debug, Drop)]
+#[derive(Drop)]
 pub(crate) struct Stretch<'a> {
     pub(crate) text: String,
     pub(crate) end: LiteralEnd<'a>,

@@ -14,7 +14,7 @@ use std::alloc::Global;
 use tf_expr_syntax::{Operator, Prefix, Reference, Template, Term};
 
 /// An expression that was read, its depth, and what follows it.
-#[derive(Debug, Drop)]
+#[derive(Drop)]
 pub(crate) struct ReadTerm<'a> {
     pub(crate) term: Term,
     pub(crate) depth: usize,
@@ -38,7 +38,7 @@ impl<'a> ReadTerm<'a> {
 }
 
 /// A sequence of expressions, the depth of the deepest, and what follows them.
-#[derive(Debug, Drop)]
+#[derive(Drop)]
 pub(crate) struct Items<'a> {
     pub(crate) terms: Vec<Term>,
     pub(crate) depth: usize,
@@ -46,7 +46,7 @@ pub(crate) struct Items<'a> {
 }
 
 /// A template, the depth of the deepest interpolation, and what follows it.
-#[derive(Debug, Drop)]
+#[derive(Drop)]
 pub(crate) struct Read<'a> {
     pub(crate) template: Template,
     pub(crate) depth: usize,

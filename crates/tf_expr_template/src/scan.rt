@@ -5,7 +5,7 @@ ghost use Rattle.tf_config_address.specs.Name.{starts_name, continues_name};
 ghost use Rattle.tf_expr_template.specs.Bytes.{is_space, is_digit, is_plain};
 
 /// The rest of a text.
-#[derive(Clone, Copy, Debug)]
+#[derive(Clone, Copy)]
 pub(crate) struct Remainder<'a> {
     pub(crate) text: &'a str,
 }

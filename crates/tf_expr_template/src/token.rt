@@ -10,7 +10,7 @@ use crate::scan::{byte_at, cut, digit_len, is_digit, name_len, space_len, starts
 use tf_expr_syntax::Operator;
 
 /// The kind of a token.
-#[derive(Clone, Copy, Debug)]
+#[derive(Clone, Copy)]
 pub(crate) enum TokenKind {
     Name,
     Number,
@@ -31,7 +31,7 @@ pub(crate) enum TokenKind {
 }
 
 /// The brackets of a list.
-#[derive(Clone, Copy, Debug)]
+#[derive(Clone, Copy)]
 pub(crate) enum Bracket {
     Round,
     Square,
@@ -92,7 +92,7 @@ impl TokenKind {
 }
 
 /// The first token of a text, its bytes, and what follows it.
-#[derive(Clone, Copy, Debug)]
+#[derive(Clone, Copy)]
 pub(crate) struct Token<'a> {
     pub(crate) kind: TokenKind,
     pub(crate) word: &'a str,

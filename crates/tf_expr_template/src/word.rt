@@ -6,7 +6,7 @@ ghost use Rattle.tf_expr_template.specs.Bytes.{is_digit};
 ghost use Rattle.tf_expr_template.specs.Word.{decimal, decimal_from, keyword};
 
 /// The meaning of a name.
-#[derive(Clone, Copy, Debug)]
+#[derive(Clone, Copy)]
 pub(crate) enum Keyword {
     True,
     False,
