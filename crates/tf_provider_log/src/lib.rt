@@ -24,7 +24,6 @@ mod replaying;
 mod same;
 mod shared;
 mod sink;
-mod values;
 mod writing;
 
 pub use entries::{answer_count, in_flight, split};

@@ -7,11 +7,11 @@ ghost use Rattle.tf_provider_log.specs.From.{text_from, option_text_from, option
 ghost use Rattle.tf_provider_protocol.specs.Meaning.{asked, answered};
 ghost use Rattle.tf_value_data.specs.Tree.{tree_of};
 
-use crate::values::tree_from;
 use serde_json::Value as Json;
 use std::alloc::{AllocError, Global};
 use tf_provider_protocol::{Op, Reply, Request};
 use tf_value_data::Value;
+use tf_value_json::tree_from;
 
 /// Reads a string as a text.
 pub(crate) fn text_from(json: Option<&Json>) -> Result<Option<String>, AllocError>

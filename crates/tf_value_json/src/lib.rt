@@ -12,6 +12,6 @@ mod writing;
 pub use fault::JsonFault;
 pub use laws::{forms_are_one, forms_read_back, read_trees_are_sorted, texts_read_back};
 pub use layout::text;
-pub use reading::from_json;
+pub use reading::{from_json, tree_from};
 pub use sending::AsJson;
 pub use writing::{entries_to_json, to_json};

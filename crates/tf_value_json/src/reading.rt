@@ -34,7 +34,7 @@ pub fn from_json(alloc: Global, json: &Json) -> Result<Value, JsonFault>
     if measure.weight > MAX_WEIGHT || measure.depth > MAX_DEPTH {
         return Err(JsonFault::TooLarge);
     }
-    Ok(read(alloc, json)?)
+    Ok(tree_from(alloc, json)?)
 }
 
 // Returns whether each number is held as a whole number of 64 bits with a sign.
@@ -148,9 +148,14 @@ fn measure_of_members(members: &Map<String, Json>) -> Measure
     Measure { weight, depth }
 }
 
-// Builds the value that the tree reads as, with an unknown part for a number that isn't whole.
+/// Reads a JSON tree of any size as a value, with an unknown part for each number that isn't held as a whole number of 64
+/// bits with a sign.
+///
+/// # Errors
+///
+/// Fails only if memory runs out.
 #[cycle(read)]
-fn read(alloc: Global, json: &Json) -> Result<Value, AllocError>
+pub fn tree_from(alloc: Global, json: &Json) -> Result<Value, AllocError>
     ensures { IfOk result (λ v. tree_of v ≡ tree_from (view json.now)) }
 {
     match json {
@@ -172,7 +177,7 @@ fn read_items(alloc: Global, items: &Vec<Json>) -> Result<Vec<Value>, AllocError
 {
     let mut values = Vec::with_capacity(alloc, items.len())?;
     for item in items {
-        values.push(read(alloc, item)?)?;
+        values.push(tree_from(alloc, item)?)?;
     }
     Ok(values)
 }
@@ -187,7 +192,7 @@ fn read_members(
     let mut entries = BTreeMap::new(alloc);
     for (key, member) in members.iter() {
         let name = key.clone()?;
-        drop(entries.insert(name, read(alloc, member)?)?);
+        drop(entries.insert(name, tree_from(alloc, member)?)?);
     }
     Ok(entries)
 }

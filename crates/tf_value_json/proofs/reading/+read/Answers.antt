@@ -7,7 +7,7 @@ use Rattle.tf_value_json.proofs.reading.+read.Goals as goal
 
 pub read_members-loop-key-preserved : goal.read_members-loop-key-preserved
 read_members-loop-key-preserved t c =
-    shown_more (λ j. tree_from (view j)) c.args.members.now.entries _ c.next.new.self (c.in-Some.key.now, c.in-Some.member.now) _ _ _ _ c.iter-key-items.ensures.ordered c.in-Some.ensures.steps c.in_ok-insert.ensures.entries c.in_ok-name.ensures.cases c.in_ok-read.ensures c.loop-key.invariant
+    shown_more (λ j. tree_from (view j)) c.args.members.now.entries _ c.next.new.self (c.in-Some.key.now, c.in-Some.member.now) _ _ _ _ c.iter-key-items.ensures.ordered c.in-Some.ensures.steps c.in_ok-insert.ensures.entries c.in_ok-name.ensures.cases c.in_ok-tree_from.ensures c.loop-key.invariant
 
 pub read_members-returns : goal.read_members-returns
 read_members-returns t c =

@@ -10,7 +10,7 @@ use Rattle.tf_value_json.proofs.reading.from_json.Goals as goal
 pub returns-clause-stored : goal.returns-clause-stored
 returns-clause-stored c =
     let d = view c.args.json.now in
-    let t = tree_of c.in_ok-read.field-0 in
+    let t = tree_of c.in_ok-tree_from.field-0 in
     let whole : known (tree_from d) ≡ true = search rules in
     let within : IsWithinLimits t = search rules in
-    read_stored d t c.in_ok-read.ensures whole within c.measure_of-measure.ensures.sorted
+    read_stored d t c.in_ok-tree_from.ensures whole within c.measure_of-measure.ensures.sorted
