@@ -1,20 +1,11 @@
 //! The program `apply`: plans a configuration, carries out the plan and writes the state.
 #![tactic(auto)]
 
-use std::fs::File;
 use std::io;
-use std::io::{IsTerminal, Stderr, Write};
 use std::process::ExitCode;
-use std::sync::{Arc, Wait};
-use std::thread::Threads;
-use tf_cli_files::{CallControl, Place, ProgramInput, Seen, hold, run};
-use tf_cli_options::{Options, Program};
-use tf_cli_program::carry_out_logged;
-use tf_provider::Provider;
-use tf_provider_local::LocalFile;
-use tf_provider_progress::Progress;
-use tf_provider_sim::Sim;
-use tf_recovery::recover;
+use tf_cli_files::run;
+use tf_cli_options::Program;
+use tf_recovery::apply;
 
 fn main(rt: HostRuntime) -> io::Result<ExitCode> {
     run(
@@ -24,75 +15,4 @@ fn main(rt: HostRuntime) -> io::Result<ExitCode> {
         &mut rt.stderr(),
         |options, out, err| apply(&rt, &rt, options, out, err),
     )
-}
-
-/// Recovers an unfinished apply, if there is one, and then applies.
-fn apply<T: Threads + Wait + Sync, O: Write, E: Write>(
-    rt: &HostRuntime,
-    threads: &T,
-    options: Options,
-    out: &mut O,
-    err: &mut E,
-) -> io::Result<ExitCode> {
-    let (seen, file) = match hold(rt, options, err) {
-        Ok(held) => held,
-        Err(status) => return Ok(status),
-    };
-    let Seen {
-        mut given,
-        place,
-        past,
-    } = seen;
-    let recovered = recover(rt, &place, &file, &mut given, past, out, err)?;
-    if let Err(status) = recovered {
-        return Ok(status);
-    }
-    let file = Arc::new(rt.alloc(), file)?;
-    apply_by(rt, threads, &place, &file, &given, out, err)
-}
-
-/// Applies with `sim` and `local_file`, whose calls are logged, counted for `--stop-after`, and printed if that is asked for.
-fn apply_by<T: Threads + Wait + Sync, O: Write, E: Write>(
-    rt: &HostRuntime,
-    threads: &T,
-    place: &Place,
-    file: &Arc<File>,
-    given: &ProgramInput,
-    out: &mut O,
-    err: &mut E,
-) -> io::Result<ExitCode> {
-    let alloc = rt.alloc();
-    let control = CallControl::new(alloc, Arc::try_clone(file)?, given.options.stop_after)?;
-    let sim = control.wrap(alloc, Sim::new(alloc)?)?;
-    let local_file = control.wrap(alloc, LocalFile::new(alloc, *rt)?)?;
-    let mut providers: Vec<Box<dyn Provider + Sync>> = Vec::new(alloc);
-    providers.push(Box::new(alloc, with_progress(rt, given, sim))?)?;
-    providers.push(Box::new(alloc, with_progress(rt, given, local_file))?)?;
-    Ok(carry_out_logged(
-        rt,
-        threads,
-        place,
-        file,
-        control.log(),
-        given,
-        providers.as_slice(),
-        control.stop(),
-        out,
-        err,
-    ))
-}
-
-/// Wraps a provider so that its calls are printed on standard error, if that is a terminal or `--progress` is given.
-fn with_progress<P: Provider>(
-    rt: &HostRuntime,
-    given: &ProgramInput,
-    provider: P,
-) -> Progress<P, Stderr, HostRuntime> {
-    let err = rt.stderr();
-    let screen = if given.options.progress || err.is_terminal() {
-        Some(err)
-    } else {
-        None
-    };
-    Progress::new(rt.alloc(), screen, *rt, provider)
 }

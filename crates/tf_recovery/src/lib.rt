@@ -1,9 +1,14 @@
-//! Recovers an unfinished apply with the providers `sim` and `local_file`, which answer from its log.
+//! The work of the programs `plan` and `apply` with the providers `sim` and `local_file`. Before it, they recover an unfinished
+//! apply with these providers, which then answer from its log.
 #![tactic(auto)]
 
+mod applying;
 mod own;
+mod planning;
 mod previewing;
 mod recovering;
 
+pub use applying::apply;
+pub use planning::plan;
 pub use previewing::preview;
 pub use recovering::recover;

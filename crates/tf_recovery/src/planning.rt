@@ -1,0 +1,55 @@
+//! The work of `plan`.
+
+use crate::previewing::preview;
+use std::io;
+use std::io::Write;
+use std::process::ExitCode;
+use tf_cli_files::{ProgramInput, Seen, see};
+use tf_cli_options::{GraphForm, Options};
+use tf_cli_program::{print_graph, print_plan};
+use tf_provider::Provider;
+use tf_provider_local::LocalFile;
+use tf_provider_sim::Sim;
+
+/// Prints the plan from the state file, or from the state that an unfinished apply left, and returns the program's status.
+///
+/// # Errors
+///
+/// Fails only if memory runs out.
+pub fn plan<O: Write, E: Write>(
+    rt: &HostRuntime,
+    options: Options,
+    out: &mut O,
+    err: &mut E,
+) -> io::Result<ExitCode> {
+    let seen = match see(rt, options, err) {
+        Ok(seen) => seen,
+        Err(status) => return Ok(status),
+    };
+    let Seen {
+        mut given,
+        place,
+        past,
+    } = seen;
+    if let Err(status) = preview(rt, &place, &mut given, past, err)? {
+        return Ok(status);
+    }
+    print_given(rt, &given, out, err)
+}
+
+/// Prints the plan's text, or its drawing if the options ask for that.
+fn print_given<O: Write, E: Write>(
+    rt: &HostRuntime,
+    given: &ProgramInput,
+    out: &mut O,
+    err: &mut E,
+) -> io::Result<ExitCode> {
+    let mut providers: Vec<Box<dyn Provider + Sync>> = Vec::new(rt.alloc());
+    providers.push(Box::new(rt.alloc(), Sim::new(rt.alloc())?)?)?;
+    providers.push(Box::new(rt.alloc(), LocalFile::new(rt.alloc(), *rt)?)?)?;
+    let status = match given.options.graph {
+        Some(GraphForm::Dot) => print_graph(rt.alloc(), given, &providers, out, err),
+        None => print_plan(rt.alloc(), given, &providers, out, err),
+    };
+    Ok(ExitCode::from(status))
+}
