@@ -10,7 +10,8 @@ use Rattle.serde_json.specs.Find.{get_member}
 use Rattle.tf_config_refusal.proofs.Walks.{Builds-keeps}
 use Rattle.tf_config_refusal.specs.Walk.{Builds}
 use Rattle.tf_expr_syntax.specs.ExprTree.{Tree}
-use Rattle.tf_config_json.specs.Configuration.{AddsInOutput, AddsOutputProperty, IsOutputBody, BuildsFrom, has}
+use Rattle.tf_config_json.specs.Building.{AddsInOutput, AddsOutputProperty, BuildsOutput, BuildsFrom}
+use Rattle.tf_config_json.specs.Configuration.{has}
 use Rattle.tf_config_json.specs.Words.{output_property_of}
 use Rattle.tf_config_json.specs.declared.words.OutputProperty.{OutputProperty}
 use Rattle.tf_config_json.specs.declared.words.OutputProperty.TheVariants as in_output
@@ -85,21 +86,8 @@ has_one (member k d ms) a b builds none some =
 
 -- ---- bodies
 
-some_found : (d : Data) (o : Option Tree) → is_some o ≡ true → BuildsFrom AddsOutputProperty d None o → (e : Tree) × IsOutputBody d e
-some_found d None some builds = absurd (cc)
-some_found d (Some e) some builds = (e, builds)
-
--- a body that has a value says it
-pub value_found : (d : Data) (o : Option Tree) → has value_name d ≡ true → BuildsFrom AddsOutputProperty d None o → (e : Tree) × IsOutputBody d e
-value_found null o h builds = absurd builds
-value_found (boolean x) o h builds = absurd builds
-value_found (number x) o h builds = absurd builds
-value_found (string x) o h builds = absurd builds
-value_found (array x) o h builds = absurd builds
-value_found (object ms) o h builds = some_found (object ms) o (finds ms None o builds h) builds
-
 -- a body that says a value has it
-pub value_there : (d : Data) (e : Tree) → IsOutputBody d e → has value_name d ≡ true
+pub value_there : (d : Data) (e : Tree) → BuildsOutput d e → has value_name d ≡ true
 value_there null e h = absurd h
 value_there (boolean x) e h = absurd h
 value_there (number x) e h = absurd h

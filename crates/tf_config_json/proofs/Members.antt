@@ -9,7 +9,8 @@ use Rattle.tf_config_refusal.proofs.Walks.{Builds-met, builds_more}
 use Rattle.tf_config_refusal.specs.Walk.{each, each_item, Builds}
 use Rattle.tf_config_json.proofs.Fits.{items_met}
 use Rattle.tf_config_json.proofs.Refusals.{Refuses-at, Refuses-at_item}
-use Rattle.tf_config_json.specs.Configuration.{PropertyChecks, below, IsSound}
+use Rattle.tf_config_json.specs.Building.{IsSound}
+use Rattle.tf_config_json.specs.Configuration.{PropertyChecks, below}
 use Rattle.tf_config_json.specs.Demand.{IsMet, Refuses}
 use Rattle.tf_config_json.specs.Parts.{PartChecks, IsPartSound, element_checks, EachSays}
 use Rattle.tf_config_refusal.specs.Refusal.{RefusalView}

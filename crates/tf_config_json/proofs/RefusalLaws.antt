@@ -1,11 +1,13 @@
 -- One fault is told of a text at most, and none of a configuration.
-use Rattle.std.proofs.Common.{◌≡◌, ◌⊎◌, ◌∙◌, ℕ, List, [], ◌∷◌, Some, sym, ap, subst, inl, inr, arith}
+use Rattle.std.proofs.Common.{◌≡◌, ◌⊎◌, ◌∙◌, ℕ, ◌≤◌, List, length, [], ◌∷◌, Some, sym, ap, subst, inl, inr, arith}
 use Rattle.serde_json.specs.Data.{Data}
-use Rattle.tf_config_json.proofs.ConfigurationFits.{configuration_met, configuration_same}
-use Rattle.tf_config_json.specs.Configuration.{configuration_checks, IsConfiguration}
-use Rattle.tf_config_json.specs.Demand.{Demand, nothing_fits, holds, of_expression, Checks, IsMet, Fails, Refuses}
+use Rattle.tf_config_json.proofs.BuiltSections.{text_built}
+use Rattle.tf_config_json.proofs.One.{configuration_one}
+use Rattle.tf_config_json.specs.Building.{BuildsConfiguration}
+use Rattle.tf_config_json.specs.Configuration.{configuration_checks, whole_file, IsConfiguration}
+use Rattle.tf_config_json.specs.Demand.{Demand, nothing_fits, holds, of_expression, Checks, IsMet, Fails, Refuses, TellsAt}
 use Rattle.tf_config_json.specs.Laws.{SpellsNone, IsUnspelled, IsTemplateWay, RefusedOnce, RefusedIsNotRead}
-use Rattle.tf_config_json.specs.Reading.{IsTree, IsNotJson, IsMisshapen, HasTooMany, IsWithinCounts}
+use Rattle.tf_config_json.specs.Reading.{max_bytes, IsTree, IsNotJson, IsMisshapen, HasTooMany, IsRefused, IsWithinCounts}
 use Rattle.tf_config_data.specs.Config.{ConfigView}
 use Rattle.tf_expr_json.specs.Demand as expr
 use Rattle.tf_expr_json.specs.declared.fault.ExprCause.{ExprCause}
@@ -13,8 +15,10 @@ use Rattle.tf_expr_json.specs.declared.fault.ExprCause.TheVariants.{BadShape, At
 use Rattle.tf_config_refusal.proofs.Checks.{IsFirst-unmet}
 use Rattle.tf_config_refusal.specs.Check.{IsFirst}
 use Rattle.tf_expr_json.specs.Refusing.{way_of}
+use Rattle.tf_config_refusal.specs.Place.{dotted}
 use Rattle.tf_config_refusal.specs.declared.code.Code.{Code}
-use Rattle.tf_config_refusal.specs.Refusal.{DetailView, RefusalView, fault, Way}
+use Rattle.tf_config_refusal.specs.declared.code.Code.TheVariants as code
+use Rattle.tf_config_refusal.specs.Refusal.{bare, DetailView, RefusalView, no_memory, workers, fault, Way}
 
 -- ---- demands
 
@@ -76,14 +80,14 @@ one_tree : (bytes : List ℕ) (t u : Data) → IsTree bytes t → IsTree bytes u
 one_tree bytes t u h k = let same : Some t ≡ Some u = sym h.1 ∙ k.1 in cc
 
 one_config : (bytes : List ℕ) (t u : Data) (a b : ConfigView) → IsTree bytes t → IsTree bytes u → IsConfiguration t a → IsConfiguration u b → a ≡ b
-one_config bytes t u a b text text' h k = configuration_same u a b (subst (λ d. IsConfiguration d a) (one_tree bytes t u text text') h) k
+one_config bytes t u a b text text' h k = configuration_one u a b (subst (λ d. IsConfiguration d a) (one_tree bytes t u text text') h) k
 
 -- a text that stands for a configuration has no fault in its shape
 standing : (bytes : List ℕ) (code : Code) (place : List ℕ) (detail : DetailView) (tree : Data) (config : ConfigView) → IsTree bytes tree → IsConfiguration tree config
     → IsMisshapen bytes (fault code place detail) → ⊥
 standing bytes code place detail tree config text stands h =
     let same : h.0 ≡ tree = one_tree bytes h.0 tree h.1 text in
-    IsFirst-unmet IsMet Fails apart (configuration_checks tree) place (code, detail) (configuration_met tree config stands)
+    IsFirst-unmet IsMet Fails apart (configuration_checks tree) place (code, detail) stands.checks
     (subst (λ t. Refuses (configuration_checks t) (fault code place detail)) same h.2)
 
 -- ---- two refusals
@@ -160,3 +164,13 @@ refused_not_read bytes code place detail tree config h small text stands few =
         ]
       ]
     ]
+
+-- ---- a configuration with too much of something
+
+pub too_many : (bytes : List ℕ) (tree : Data) (config : ConfigView) (refusal : RefusalView) → length bytes ≤ max_bytes → IsTree bytes tree → BuildsConfiguration tree config → ¬ IsWithinCounts config
+    → TellsAt (dotted whole_file) (code.Limit, bare) refusal → IsRefused bytes refusal
+too_many bytes tree config no_memory small is builds many h = tt
+too_many bytes tree config workers small is builds many h = absurd h
+too_many bytes tree config (fault which place detail) small is builds many h =
+    let same = ap (λ (p : List ℕ). fault which p detail) h.0 ∙ ap (λ (w : Way). fault w.0 (dotted whole_file) w.1) h.1 in
+    inr (small, inr (inr (tree, is, config, text_built bytes tree config is builds, many, same)))

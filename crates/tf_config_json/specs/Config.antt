@@ -1,4 +1,4 @@
--- The value of a body before any of its properties is read, and what is put at a name.
+-- The order of names and addresses, and what the walk begins with and puts at a name.
 use Rattle.std.specs.Prelude.{ℕ, false, Option, None, List, [], ◌∷◌, option_map}
 use Rattle.std.specs.Cmp.Lexicographic.{slice_cmp}
 use Rattle.std.specs.Ordering.{nat_cmp, match_ordering}
@@ -30,6 +30,10 @@ plain_variable = record { value_type = One Any; default = None }
 -- the variable of a name with a body
 abbrev pub variable_with : List ℕ → VariableBody → VariableView
 variable_with name body = record { name = name; value_type = body.value_type; default = body.default }
+
+-- the order of variables: by name, byte by byte
+abbrev pub variable_cmp : VariableView → VariableView → Ordering
+variable_cmp v w = slice_cmp nat_cmp v.name w.name
 
 -- the variables, with this one at its name
 abbrev pub put_variable : VariableView → List VariableView → List VariableView

@@ -1,3 +1,4 @@
+pub mod Building
 pub mod Config
 pub mod Configuration
 pub mod Demand

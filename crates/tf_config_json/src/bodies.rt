@@ -3,7 +3,8 @@
 ghost use Rattle.serde_json.specs.View.{view};
 ghost use Rattle.std.specs.Prelude.{◌≡◌};
 ghost use Rattle.tf_config_json.specs.Config.{block_body, plain_lifecycle, variable_body};
-ghost use Rattle.tf_config_json.specs.Configuration.{block_body_checks, lifecycle_property_checks, named_checks, object_checks, output_body_checks, variable_property_checks, AddsNamed, IsBlockBody, IsLifecycle, IsOutputBody, IsVariableBody};
+ghost use Rattle.tf_config_json.specs.Building.{AddsNamed, BuildsBlock, BuildsLifecycle, BuildsOutput, BuildsVariable};
+ghost use Rattle.tf_config_json.specs.Configuration.{block_body_checks, lifecycle_property_checks, named_checks, object_checks, output_body_checks, variable_property_checks};
 ghost use Rattle.tf_config_json.specs.Demand.{FineOrRefuses};
 ghost use Rattle.tf_config_json.specs.Parts.{expression_checks, Reads};
 ghost use Rattle.tf_config_data.specs.Config.{lifecycle_of};
@@ -24,7 +25,7 @@ use tf_expr_syntax::Expr;
 /// Reads the body of a variable.
 #[tactic(auto, using(crate::proofs::Sound::variable_properties_sound))]
 pub(crate) fn read_variable(part: &Part<'_>) -> Result<Variable, Refusal>
-    ensures { Reads IsVariableBody (object_checks variable_property_checks) variable_body (place_of part.now.path.now) (view part.now.value.now) result }
+    ensures { Reads BuildsVariable (object_checks variable_property_checks) variable_body (place_of part.now.path.now) (view part.now.value.now) result }
 {
     let mut variable = Variable {
         value_type: VariableType::One(Element::Any),
@@ -53,7 +54,7 @@ pub(crate) fn add_expression(
 /// Reads the body of an output, which has to have a value.
 #[tactic(auto, using(crate::proofs::Sound::output_properties_sound))]
 pub(crate) fn read_output(part: &Part<'_>) -> Result<Expr, Refusal>
-    ensures { Reads IsOutputBody output_body_checks tree_of (place_of part.now.path.now) (view part.now.value.now) result }
+    ensures { Reads BuildsOutput output_body_checks tree_of (place_of part.now.path.now) (view part.now.value.now) result }
 {
     demand_value(part.alloc, part.path, part.value)?;
     let mut found = None;
@@ -67,7 +68,7 @@ pub(crate) fn read_output(part: &Part<'_>) -> Result<Expr, Refusal>
 /// Reads the body of a resource, which can't have both `count` and `for_each`.
 #[tactic(auto, using(crate::proofs::Sound::block_properties_sound))]
 pub(crate) fn read_body(part: &Part<'_>) -> Result<Block, Refusal>
-    ensures { Reads IsBlockBody block_body_checks block_body (place_of part.now.path.now) (view part.now.value.now) result }
+    ensures { Reads BuildsBlock block_body_checks block_body (place_of part.now.path.now) (view part.now.value.now) result }
 {
     demand_one_repetition(part.alloc, part.path, part.value)?;
     let mut block = Block {
@@ -83,7 +84,7 @@ pub(crate) fn read_body(part: &Part<'_>) -> Result<Block, Refusal>
 /// Reads the value of `lifecycle`.
 #[tactic(auto, using(crate::proofs::Sound::lifecycle_properties_sound))]
 pub(crate) fn read_lifecycle(part: &Part<'_>) -> Result<Lifecycle, Refusal>
-    ensures { Reads IsLifecycle (object_checks lifecycle_property_checks) lifecycle_of (place_of part.now.path.now) (view part.now.value.now) result }
+    ensures { Reads BuildsLifecycle (object_checks lifecycle_property_checks) lifecycle_of (place_of part.now.path.now) (view part.now.value.now) result }
 {
     let mut lifecycle = plain_lifecycle(part.alloc);
     add_members(&LifecycleProperties, part, &mut lifecycle)?;

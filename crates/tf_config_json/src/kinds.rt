@@ -2,7 +2,8 @@
 
 ghost use Rattle.std.specs.Prelude.{List, Option, option_map};
 ghost use Rattle.tf_config_json.specs.Config.{block_body, variable_body, BlockBody, Blocks, VariableBody};
-ghost use Rattle.tf_config_json.specs.Configuration.{block_property_checks, lifecycle_property_checks, local_checks, output_checks, output_property_checks, resource_checks, section_checks, type_checks, variable_checks, variable_property_checks, AddsBlockProperty, AddsLifecycleProperty, AddsLocal, AddsOutput, AddsOutputProperty, AddsResource, AddsSection, AddsType, AddsVariable, AddsVariableProperty};
+ghost use Rattle.tf_config_json.specs.Building.{AddsBlockProperty, AddsLifecycleProperty, AddsLocal, AddsOutput, AddsOutputProperty, AddsResource, AddsSection, AddsType, AddsVariable, AddsVariableProperty};
+ghost use Rattle.tf_config_json.specs.Configuration.{block_property_checks, lifecycle_property_checks, local_checks, output_checks, output_property_checks, resource_checks, section_checks, type_checks, variable_checks, variable_property_checks};
 ghost use Rattle.tf_config_data.specs.Config.{blocks_of, config_of, lifecycle_of, variables_of, ConfigView, LifecycleView, VariableView};
 ghost use Rattle.tf_expr_syntax.specs.ExprTree.{entries_view, tree_of, Entries, Tree};
 

@@ -3,7 +3,8 @@
 ghost use Rattle.serde_json.specs.Data.{Data};
 ghost use Rattle.serde_json.specs.View.{members_view, view};
 ghost use Rattle.std.specs.Prelude.{List, ℕ};
-ghost use Rattle.tf_config_json.specs.Configuration.{below, object_checks, BuildsFrom, IsSound, PropertyChecks};
+ghost use Rattle.tf_config_json.specs.Building.{BuildsFrom, IsSound};
+ghost use Rattle.tf_config_json.specs.Configuration.{below, object_checks, PropertyChecks};
 ghost use Rattle.tf_config_json.specs.Demand.{FineOrRefuses};
 ghost use Rattle.tf_config_refusal.specs.Place.{place_of};
 ghost use Rattle.tf_config_refusal.specs.Walk.{each, Builds};

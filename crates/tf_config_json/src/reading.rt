@@ -2,7 +2,8 @@ ghost use Rattle.serde_json.specs.View.{view, members_view};
 ghost use Rattle.serde_json.specs.Data.{Data};
 ghost use Rattle.std.specs.Prelude.{◌<◌, ◌≤◌, ◌∷◌, [], length, IfErr, IfOk, OnOk};
 ghost use Rattle.tf_config_json.specs.Config.{plain_config};
-ghost use Rattle.tf_config_json.specs.Configuration.{below, configuration_checks, section_checks, whole_file, AddsSection, IsConfiguration};
+ghost use Rattle.tf_config_json.specs.Building.{AddsSection, BuildsConfiguration};
+ghost use Rattle.tf_config_json.specs.Configuration.{below, configuration_checks, section_checks, whole_file, IsConfiguration};
 ghost use Rattle.tf_config_json.specs.Demand.{Refuses, TellsAt};
 ghost use Rattle.tf_config_json.specs.Reading.{max_bytes, max_declared, IsRefused, IsTree, IsWithinCounts, TellsNotJson};
 ghost use Rattle.tf_config_data.specs.Config.{config_of};
@@ -104,7 +105,7 @@ pub(crate) fn read_tree(alloc: Global, bytes: &[u8], file: &str) -> Result<Value
 }
 
 fn read_configuration(alloc: Global, tree: &Value) -> Result<Config, Refusal>
-    ensures ok { IfOk result (λ config. IsConfiguration (view tree.now) (config_of config)) }
+    ensures ok { IfOk result (λ config. BuildsConfiguration (view tree.now) (config_of config)) }
     ensures fault { IfErr result (λ refusal.
         Refuses (configuration_checks (view tree.now)) (refusal_of refusal)) }
 {

@@ -1,5 +1,6 @@
-use Rattle.tf_config_json.proofs.ConfigurationFits.{configuration_met, configuration_from_met, configuration_same}
+use Rattle.tf_config_json.proofs.Existing.{configuration_there}
+use Rattle.tf_config_json.proofs.One.{configuration_one}
 use Rattle.tf_config_json.proofs.laws.faultless_trees_stand.Goals as goal
 
 pub returns : goal.returns
-returns c = record { faultless = configuration_met; stands = configuration_from_met; one = configuration_same }
+returns c = record { faultless = λ tree config h. h.checks; stands = configuration_there; one = configuration_one }

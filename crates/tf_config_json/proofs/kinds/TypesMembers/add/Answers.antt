@@ -1,5 +1,5 @@
-use Rattle.tf_config_json.proofs.ConfigurationFits.{resource_fits}
+use Rattle.tf_config_json.proofs.Sound.{resources_sound}
 use Rattle.tf_config_json.proofs.kinds.TypesMembers.add.Goals as goal
 
 pub add_members-requires : goal.add_members-requires
-add_members-requires c = record { sound = λ name. (resource_fits c.args.name.now name).met }
+add_members-requires c = record { sound = resources_sound c.args.name.now }
