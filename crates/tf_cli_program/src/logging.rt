@@ -216,10 +216,7 @@ fn text_of(alloc: Global, bytes: &[u8]) -> Result<Option<String>, AllocError>
 }
 
 /// Returns optional bytes as an optional text, or `None` if they aren't UTF-8.
-fn optional_text(
-    alloc: Global,
-    bytes: Option<&[u8]>,
-) -> Result<Option<Option<String>>, AllocError>
+fn optional_text(alloc: Global, bytes: Option<&[u8]>) -> Result<Option<Option<String>>, AllocError>
     ensures { IfOk result (λ found. IfSome found (λ text. option_map string_bytes text ≡ option_map (λ b. b.now) bytes.entry)) }
 {
     match bytes {
