@@ -1,10 +1,13 @@
 -- The end of a program that has a state to write.
 use Rattle.std.proofs.Common.{inl, inr}
-use Rattle.std.specs.Prelude.{◌≡◌, ◌⊎◌, ℕ, List, Option, Some, None}
+use Rattle.std.specs.Prelude.{◌≡◌, ◌⊎◌, ℕ, List, Option, Some, None, string_bytes}
 use Rattle.std.specs.Borrow.{MutBor}
 use Rattle.std.specs.Io.KnownBytes.{Appends}
 use Rattle.tf_cli_lines.specs.Saved.{AppendsStart}
 use Rattle.tf_cli_lines.specs.Lines.{unwritten_line}
+use Rattle.tf_cli_files.specs.declared.log_file.Settled.{Settled}
+use Rattle.tf_cli_files.specs.declared.log_file.Settled.TheVariants.{Replaced}
+use Rattle.tf_cli_files.specs.declared.replacing.InPlace.{InPlace}
 
 -- The opened file got a beginning of the text and nothing else. (The second argument is what is left of an
 -- `Option<&mut W>`.)
@@ -24,3 +27,12 @@ abbrev pub EndsKept : (status result : ℕ) (text : List ℕ) (out out_after err
 EndsKept status result text out out_after err err_after =
     ((result ≡ status) × (out_after ≡ out) × (err_after ≡ err))
     ⊎ ((result ≡ 3) × AppendsStart out out_after text × AppendsStart err err_after unwritten_line)
+
+-- the text that the state file has
+abbrev pub text_in_place : InPlace → List ℕ
+text_in_place in_place = string_bytes in_place.text
+
+-- the text by which the state file was replaced, if it was
+abbrev pub replaced_text : Settled → Option (List ℕ)
+replaced_text (Replaced in_place) = Some (text_in_place in_place)
+replaced_text _ = None

@@ -2,7 +2,8 @@
 
 ghost use Rattle.std.specs.Prelude.{◌≡◌, IfOk};
 
-use crate::log_file::{LogFile, LogSink};
+use crate::log_file::LineFile;
+use crate::log_sink::LogSink;
 use crate::stopping::{Countdown, Stopping};
 use std::alloc::{AllocError, Global};
 use std::sync::Arc;
@@ -13,12 +14,12 @@ use tf_walk_action::Stop;
 /// The shared state of the providers of an apply: the log of their calls, and the flag that stops the walk after a
 /// given number of calls.
 #[derive(Drop)]
-pub struct CallControl<F: LogFile> {
+pub struct CallControl<F: LineFile> {
     log: Arc<OpenLog<LogSink<F>>>,
     countdown: Arc<Countdown>,
 }
 
-impl<F: LogFile> CallControl<F> {
+impl<F: LineFile> CallControl<F> {
     /// Returns the control before any call, with its log in the given file. The call with the number `last` sets the
     /// flag before it returns. With 0 the flag is set from the start, and without a number it is never set.
     pub fn new(

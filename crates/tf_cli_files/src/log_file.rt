@@ -1,24 +1,29 @@
 //! The file of a log. An apply locks it, and appends the log's lines to it.
 
+use crate::replacing::InPlace;
 use std::fs::{File, OpenFile, OpenOptions, Permissions, TryLockError};
 use std::io::{ErrorKind, Read, Write};
 use std::os::unix::fs::{OpenOptionsExt, PermissionsExt};
 use std::rt::Files;
-use std::sync::Arc;
 use std::{fs, io};
-use tf_provider_log::{NotAdded, Sink};
 
 /// The permissions of a log and of a new state: only their owner may read and write them, because configurations and
 /// states contain secrets.
 pub const OWNER_ALONE: u32 = 0o600;
 
-/// The operations of a file that a log needs.
+/// The file of a log, which can be locked.
 pub trait LogFile: OpenFile + Drop {
     /// Locks the file until it is closed, in whatever way. Returns false if somebody else holds the lock.
     fn try_lock(&self) -> io::Result<bool>;
+}
 
+/// The operations of a file that a log's lines need.
+pub trait LineFile: Drop {
     /// Writes at the file's end, by one call, and returns how many bytes were taken.
     fn append(&self, bytes: &[u8]) -> io::Result<usize>;
+
+    /// Puts all that was written on the disk.
+    fn sync_lines(&self) -> io::Result<()>;
 }
 
 impl LogFile for File {
@@ -29,41 +34,32 @@ impl LogFile for File {
             Err(TryLockError::Error(error)) => Err(error),
         }
     }
+}
 
+impl LineFile for File {
     fn append(&self, bytes: &[u8]) -> io::Result<usize> {
         let mut file = self;
         file.write(bytes)
     }
-}
 
-/// A sink that appends a log's lines to its file. Each line is written by one call at the file's end, and is on the
-/// disk before the next step.
-#[derive(Drop)]
-pub struct LogSink<F: LogFile> {
-    file: Arc<F>,
-}
-
-impl<F: LogFile> LogSink<F> {
-    /// Returns a sink that appends to the log in this file.
-    pub fn new(file: Arc<F>) -> LogSink<F> {
-        LogSink { file }
+    fn sync_lines(&self) -> io::Result<()> {
+        self.sync_data()
     }
 }
 
-impl<F: LogFile> Sink for LogSink<F> {
-    fn add(&self, text: &str) -> Result<(), NotAdded> {
-        match self.file.append(text.as_bytes()) {
-            Ok(count) if count == text.len() => match self.file.sync_data() {
-                Ok(()) => Ok(()),
-                Err(_) => Err(NotAdded),
-            },
-            _ => Err(NotAdded),
-        }
-    }
+/// Why the lines of a log aren't needed any more.
+#[derive(Debug, Drop)]
+pub enum Settled {
+    /// The log has no whole line, so no call was made.
+    NoCalls,
+    /// The state file already has the state that the calls led to.
+    UpToDate,
+    /// The state file was replaced by one with that state.
+    Replaced(InPlace),
 }
 
-/// Removes all lines of a log.
-pub fn empty<F: LogFile>(file: &F) -> io::Result<()> {
+/// Removes all lines of a log, which aren't needed any more.
+pub fn empty<F: LogFile>(file: &F, _why: &Settled) -> io::Result<()> {
     file.set_len(0)?;
     file.sync_all()
 }

@@ -1,6 +1,9 @@
 //! Replacing the state file.
 
-ghost use Rattle.tf_cli_files.specs.Kept.{EndsKept};
+ghost use Rattle.std.specs.Prelude.{◌≡◌, IfOk, OnErr, string_bytes};
+ghost use Rattle.tf_cli_files.specs.Kept.{EndsKept, text_in_place};
+ghost use Rattle.tf_cli_lines.specs.Lines.{unwritten_line};
+ghost use Rattle.tf_cli_lines.specs.Saved.{AppendsStart};
 
 use crate::keeping::keep;
 use crate::log_file::OWNER_ALONE;
@@ -128,30 +131,54 @@ fn keep_backup<R: Files>(rt: &R, place: &Place) -> io::Result<()> {
     renamed
 }
 
+/// The evidence that the state file has a text: the text was written to a new file, synced, and renamed into place.
+/// Only [`keep_state`] makes one.
+#[derive(Debug, Drop)]
+pub struct InPlace {
+    text: String,
+}
+
+impl InPlace {
+    /// Returns the text.
+    pub fn into_text(self) -> String
+        ensures { string_bytes result ≡ text_in_place self }
+    {
+        self.text
+    }
+}
+
+/// The state file doesn't have the text that was to be written. Standard error reports that, and standard output has
+/// the text.
+#[derive(Clone, Copy, Debug, PartialEq, Eq)]
+pub struct NotInPlace;
+
 /// Replaces the state file by one with this text: writes a new file next to it, and renames it when all of it is on
-/// the disk. The old file stays as the backup. Returns the status so far, or 3 if any of that fails. Then the state
-/// file stays as it was, the new file is removed, standard error reports that the state isn't written, and standard
-/// output gets its text. (If only the sync of the folder fails, the state file is the new one, and the rest is the
-/// same.)
+/// the disk. The old file stays as the backup.
+///
+/// # Errors
+///
+/// If any of that fails, the state file stays as it was, the new file is removed, standard error reports that the state
+/// isn't written, and standard output gets its text. (If only the sync of the folder fails, the state file is the new
+/// one, and the rest is the same.)
 pub fn keep_state<R: Files, O: Write, E: Write>(
     rt: &R,
     place: &Place,
-    text: &str,
-    status: u8,
+    text: String,
     out: &mut O,
     err: &mut E,
-) -> u8
-    ensures { EndsKept status result text.now (O.contents out.old) (O.contents out.new) (E.contents err.old) (E.contents err.new) }
+) -> Result<InPlace, NotInPlace>
+    ensures kept { IfOk result (λ in_place. (text_in_place in_place ≡ string_bytes text) × (O.contents out.new ≡ O.contents out.old) × (E.contents err.new ≡ E.contents err.old)) }
+    ensures not_kept { OnErr result (AppendsStart (O.contents out.old) (O.contents out.new) (string_bytes text) × AppendsStart (E.contents err.old) (E.contents err.new) unwritten_line) }
 {
-    let kept = keep_by(rt, place, text, out, err);
+    let kept = keep_by(rt, place, text.as_str(), out, err);
     if kept == 0 {
-        return status;
+        return Ok(InPlace { text });
     }
     let _ = fs::remove_file(rt, place.new.as_str());
-    kept
+    Err(NotInPlace)
 }
 
-/// Replaces the state file by one with this text.
+/// Replaces the state file by one with this text. Returns 0, or 3 if the file isn't replaced.
 fn keep_by<R: Files, O: Write, E: Write>(
     rt: &R,
     place: &Place,

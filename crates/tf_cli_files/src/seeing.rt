@@ -4,7 +4,7 @@ ghost use Rattle.std.specs.Prelude.{IfErr};
 ghost use Rattle.tf_cli_files.specs.Program.{IsFailure};
 
 use crate::given::ProgramInput;
-use crate::log_file::{LogFile, empty, open_log, read_log_file};
+use crate::log_file::{LogFile, Settled, empty, open_log, read_log_file};
 use crate::past::{Past, read_past};
 use crate::place::Place;
 use crate::reading::{read_files, read_input, read_optional, tell_unread};
@@ -133,7 +133,7 @@ fn take_torn_away<F: LogFile>(log: &F) -> io::Result<()> {
     if log.metadata()?.len() == 0 {
         return Ok(());
     }
-    empty(log)
+    empty(log, &Settled::NoCalls)
 }
 
 /// Reads the state, if there is one, and the log.

@@ -1,4 +1,5 @@
 mod Cut
+mod Kept
 mod Continuing
 mod Taken
 mod Worked

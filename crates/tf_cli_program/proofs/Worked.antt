@@ -1,6 +1,7 @@
 -- What the programs do with what they were given.
-use Rattle.std.proofs.Common.{◌≡◌, ◌∙◌, ℕ, List, Option, Some, None, Result, Ok, Err, true, refl, sym, ap, subst, option_map, string_bytes}
-use Rattle.std.specs.Prelude.{IfOk, IfErr}
+use Rattle.std.proofs.Common.{◌≡◌, ◌∙◌, ℕ, List, Option, Some, None, Result, Ok, Err, Bool, true, false, refl, sym, ap, subst, option_map, string_bytes}
+use Rattle.std.specs.Prelude.{IfOk, IfErr, if◌then◌else◌, is_err, not, ◌&&◌}
+use Rattle.std.specs.Result.{result_ok}
 use Rattle.std.specs.declared.alloc.Global.{Global}
 use Rattle.std.specs.declared.string.String.{String}
 use Rattle.tf_cli_inputs.specs.Texts.{Texts, the_texts}
@@ -12,7 +13,8 @@ use Rattle.tf_cli.specs.Applies.{IsApplied, IsPlanText}
 use Rattle.tf_cli_text.specs.Shown.{to_write}
 use Rattle.tf_cli_files.specs.Kept.{EndsKept}
 use Rattle.tf_cli.specs.Refusals.{AreApplyRefusals, AreRefusals}
-use Rattle.tf_cli_text.specs.Shown.{status_of}
+use Rattle.tf_cli_text.specs.Shown.{all_good, is_torn, status_of}
+use Rattle.tf_walk_report.specs.Report.{report_of}
 use Rattle.tf_cli_program.specs.Work.{EndsApply, EndsWith, IsAnswer, IsGraphAnswer, IsGraphText, IsPlanAnswer, IsShown, answer_of, texts_of}
 use Rattle.tf_cli_text.specs.declared.applied.Applied.{Applied}
 use Rattle.tf_cli_files.specs.declared.given.ProgramInput.{ProgramInput}
@@ -77,3 +79,14 @@ module _ (result : ℕ) (out out_after err err_after : Option (List ℕ)) where
       → EndsApply answer result out out_after err err_after
   then_kept {Z} answer text it out_shown err_shown wanted is shown kept =
       subst (λ (w : Option (List ℕ)). EndsWith w answer result out out_after err err_after) (sym (ap (λ (t : Option (String Z)). option_map string_bytes t) is) ∙ wanted) (out_shown, err_shown, shown, kept)
+
+-- If there is nothing to write, and the status isn't that of a state that isn't written, the state hasn't changed.
+unchanged_parts : {S F : Type 0} (text : S → List ℕ) (changed : Bool) (state : Result S F) (rest : ℕ) → (if changed then option_map text (result_ok state) else None) ≡ None
+    → ((if changed && is_err state then 3 else rest) ≡ 3 → ⊥) → changed ≡ false
+unchanged_parts text false state rest none written = refl
+unchanged_parts text true (Ok s) rest none written = absurd (cc)
+unchanged_parts text true (Err f) rest none written = absurd (written refl)
+
+pub unchanged : (answer : Result Applied Refused) → to_write answer ≡ None → (status_of answer ≡ 3 → ⊥) → IfOk answer (λ a. a.changed ≡ false)
+unchanged (Ok a) none written = unchanged_parts string_bytes a.changed a.state (if all_good (report_of a.walked) && not (is_torn a.walked) then 0 else 2) none written
+unchanged (Err refused) none written = tt

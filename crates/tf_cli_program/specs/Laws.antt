@@ -1,5 +1,5 @@
 -- The laws of recovery.
-use Rattle.std.specs.Prelude.{◌≡◌, ◌++◌, ◌⊎◌, ℕ, List, [], take, Option}
+use Rattle.std.specs.Prelude.{◌≡◌, ◌++◌, ◌⊎◌, ℕ, List, ◌∷◌, [], take, Option}
 use Rattle.tf_provider_log.specs.LogEntry.{LogEntryView}
 use Rattle.tf_provider_log.specs.Header.{HeaderView}
 use Rattle.tf_provider_log.specs.Laws.{AreLines, ReadsAsFar, joined}
@@ -29,3 +29,19 @@ CutLogsAreRecovered =
     (ms : List Meaning) (given : HeaderView) (written : List ℕ) (es : List LogEntryView) (texts : List (List ℕ)) (bytes rest : List ℕ)
     → AreTrue ms es → IsHeaderLine given written → AreLines es texts → bytes ++ rest ≡ written ++ joined texts
     → (lines_of bytes ≡ []) ⊎ RecoversAsFar ms given written es texts bytes
+
+-- Some of the lines of a log, in their order: entries, each with its text.
+pub data AreSome : List LogEntryView → List (List ℕ) → List LogEntryView → List (List ℕ) → Type 0 where
+  nothing : AreSome [] [] [] []
+  keeps : (e : LogEntryView) (text : List ℕ) (some es : List LogEntryView) (some_texts texts : List (List ℕ))
+    → AreSome some some_texts es texts → AreSome (e ∷ some) (text ∷ some_texts) (e ∷ es) (text ∷ texts)
+  loses : (e : LogEntryView) (text : List ℕ) (some es : List LogEntryView) (some_texts texts : List (List ℕ))
+    → AreSome some some_texts es texts → AreSome some some_texts (e ∷ es) (text ∷ texts)
+
+-- So it is too if only some of the lines after the first are left, as after a loss of power, and these are cut at any byte.
+abbrev pub KeptLinesAreRecovered : Type 0
+KeptLinesAreRecovered =
+    (ms : List Meaning) (given : HeaderView) (written : List ℕ) (es some : List LogEntryView) (texts some_texts : List (List ℕ)) (bytes rest : List ℕ)
+    → AreTrue ms es → IsHeaderLine given written → AreLines es texts → AreSome some some_texts es texts
+    → bytes ++ rest ≡ written ++ joined some_texts
+    → (lines_of bytes ≡ []) ⊎ RecoversAsFar ms given written some some_texts bytes

@@ -1,5 +1,5 @@
 -- What the programs do with the files that they were given.
-use Rattle.std.specs.Prelude.{◌≡◌, ◌⊎◌, true, ℕ, List, Option, Some, None, Result, Ok, Err, option_map, string_bytes}
+use Rattle.std.specs.Prelude.{◌≡◌, ◌⊎◌, true, false, IfOk, ℕ, List, Option, Some, None, Result, Ok, Err, option_map, string_bytes}
 use Rattle.std.specs.Process.{exit_status}
 use Rattle.std.specs.declared.alloc.Global.{Global}
 use Rattle.std.specs.declared.process.ExitCode.{ExitCode}
@@ -14,7 +14,9 @@ use Rattle.tf_cli_text.specs.Shown.{to_write}
 use Rattle.tf_provider_log.specs.Header.{HeaderView}
 use Rattle.tf_plan_text.specs.Dot.{IsDrawn}
 use Rattle.tf_plan_data.specs.Plan.{PlanView}
-use Rattle.tf_cli_files.specs.Kept.{EndsKept}
+use Rattle.tf_cli_files.specs.Kept.{EndsKept, text_in_place}
+use Rattle.tf_cli_files.specs.declared.log_file.Settled.{Settled}
+use Rattle.tf_cli_files.specs.declared.log_file.Settled.TheVariants.{NoCalls, Replaced, UpToDate}
 use Rattle.tf_cli.specs.Refusals.{AreApplyRefusals, AreRefusals}
 use Rattle.tf_cli_lines.specs.Saved.{AppendsStart}
 use Rattle.tf_cli_text.specs.Shown.{errors_of, output_of, refused_errors, status_of}
@@ -84,6 +86,14 @@ EndsWith (Some text) answer result out out_after err err_after =
 
 abbrev pub EndsApply : Result Applied Refused → (result : ℕ) (out out_after err err_after : Option (List ℕ)) → Type 0
 EndsApply answer result out out_after err err_after = EndsWith (to_write answer) answer result out out_after err err_after
+
+-- Why the log of an apply isn't needed any more: the state file was replaced by the text to write, or the state hasn't changed. It is
+-- still needed only if the state isn't written, which is status 3.
+abbrev pub IsSettled : Result Applied Refused → (status : ℕ) → Option Settled → Type 0
+IsSettled answer status None = status ≡ 3
+IsSettled answer status (Some (Replaced in_place)) = to_write answer ≡ Some (text_in_place in_place)
+IsSettled answer status (Some UpToDate) = IfOk answer (λ a. a.changed ≡ false)
+IsSettled answer status (Some NoCalls) = ⊥
 
 -- An apply with a log ends before any call, with status 1 and nothing on standard output; or it ends as an apply without one does,
 -- and may print more on standard error.

@@ -2,6 +2,7 @@
 
 ghost use Rattle.std.specs.Process.{exit_status};
 ghost use Rattle.std.specs.Prelude.{◌≡◌, ◌≤◌, ◌⊎◌, IfErr, IfOk, IfSome, OnOk, map, option_map, string_bytes};
+ghost use Rattle.tf_cli_files.specs.Kept.{replaced_text};
 ghost use Rattle.tf_cli_files.specs.Program.{IsFailure};
 ghost use Rattle.tf_cli_program.specs.Work.{EndsLogged, header_given};
 ghost use Rattle.tf_cli_program.specs.Recovery.{ContinuesFrom, IsInspected, IsReplaced};
@@ -9,6 +10,7 @@ ghost use Rattle.tf_cli_program.specs.Recovery.{ContinuesFrom, IsInspected, IsRe
 use crate::recovery_status::{RecoveryStatus, recovery_status};
 use crate::work::carry_out;
 use std::alloc::{AllocError, Global};
+use std::fs::OpenFile;
 use std::io::Write;
 use std::process::ExitCode;
 use std::rt::Files;
@@ -16,8 +18,8 @@ use std::sync::Wait;
 use std::thread::Threads;
 use tf_cli::Stop;
 use tf_cli_files::{
-    LogFile, Past, Place, ProgramInput, UNWRITTEN, empty, keep_state, sync_folder, tell_lost,
-    tell_no_log, tell_no_memory,
+    LogFile, NotInPlace, Past, Place, ProgramInput, Settled, UNWRITTEN, empty, keep_state,
+    sync_folder, tell_lost, tell_no_log, tell_no_memory,
 };
 use tf_provider::Provider;
 use tf_provider_log::{Header, NotStarted, OpenLog, Sink};
@@ -26,7 +28,7 @@ use tf_provider_log::{Header, NotStarted, OpenLog, Sink};
 const EXIT_INSPECT: u8 = 2;
 
 /// Recovers the state that an unfinished apply left, writes it and empties the log. `given` then has that state in place of its
-/// own.
+/// own. The log is synced before the state is written, so that a loss of power leaves both or only the log.
 ///
 /// # Errors
 ///
@@ -49,10 +51,11 @@ where
     ensures status { IfErr result (λ status. 1 ≤ exit_status status) }
 {
     match recovery_status(rt.alloc(), place, given, past, replayed, err)? {
-        RecoveryStatus::After => empty_log(file, place, err),
+        RecoveryStatus::After => empty_log(file, &Settled::UpToDate, place, err),
         RecoveryStatus::Before(state) => {
-            replace_state(rt, place, given, state, out, err)?;
-            empty_log(file, place, err)?;
+            let settled = replace_state(rt, place, file, state, out, err)?;
+            empty_log(file, &settled, place, err)?;
+            take_state(given, settled);
             if past.in_flight.is_empty() {
                 Ok(())
             } else {
@@ -85,34 +88,52 @@ pub fn preview_recovery<E: Write>(
     Ok(())
 }
 
-/// Writes a recovered state, if there is one, and puts it in place of the given one.
+/// Writes a recovered state, if there is one. Syncs the log before that.
 fn replace_state<R: Files, O: Write, E: Write>(
     rt: &R,
     place: &Place,
-    given: &mut ProgramInput,
+    file: &R::File,
     state: Option<String>,
     out: &mut O,
     err: &mut E,
-) -> Result<(), ExitCode>
-    ensures replaced { IfOk result (λ _. IsReplaced (option_map string_bytes state) given.old given.new) }
+) -> Result<Settled, ExitCode>
+where
+    R::File: LogFile,
+    ensures replaced { IfOk result (λ settled. replaced_text settled ≡ option_map string_bytes state) }
     ensures status { IfErr result (λ status. 1 ≤ exit_status status) }
 {
     let Some(state) = state else {
-        return Ok(());
+        return Ok(Settled::UpToDate);
     };
-    let kept = keep_state(rt, place, state.as_str(), 0, out, err);
-    if kept != 0 {
-        return Err(ExitCode::from(kept));
+    if file.sync_data().is_err() {
+        return Err(tell_no_log(place.log.as_str(), err));
     }
-    given.state = Some(state.into_bytes());
-    Ok(())
+    match keep_state(rt, place, state, out, err) {
+        Ok(in_place) => Ok(Settled::Replaced(in_place)),
+        Err(NotInPlace) => Err(ExitCode::from(UNWRITTEN)),
+    }
 }
 
-/// Empties the log.
-fn empty_log<F: LogFile, E: Write>(file: &F, place: &Place, err: &mut E) -> Result<(), ExitCode>
+/// Puts the text by which the state file was replaced, if it was, in place of the given state.
+fn take_state(given: &mut ProgramInput, settled: Settled)
+    ensures { IsReplaced (replaced_text settled) given.old given.new }
+{
+    match settled {
+        Settled::Replaced(in_place) => given.state = Some(in_place.into_text().into_bytes()),
+        Settled::NoCalls | Settled::UpToDate => {}
+    }
+}
+
+/// Empties the log, which isn't needed any more.
+fn empty_log<F: LogFile, E: Write>(
+    file: &F,
+    why: &Settled,
+    place: &Place,
+    err: &mut E,
+) -> Result<(), ExitCode>
     ensures { IfErr result IsFailure }
 {
-    match empty(file) {
+    match empty(file, why) {
         Ok(()) => Ok(()),
         Err(_) => Err(tell_no_log(place.log.as_str(), err)),
     }
@@ -146,12 +167,13 @@ where
     if let Err(status) = start(rt, place, log, given, err) {
         return status;
     }
-    let status = carry_out(rt, threads, place, given, providers, stop, out, err);
+    let (status, settled) =
+        carry_out(rt, threads, place, log, given, providers, stop, out, err);
     if log.is_lost() {
         tell_lost(place.log.as_str(), err);
     }
-    if status != UNWRITTEN && empty(file).is_err() {
-        let _ = tell_no_log(place.log.as_str(), err);
+    if let Some(why) = settled {
+        let _ = empty_log(file, &why, place, err);
     }
     ExitCode::from(status)
 }

@@ -1,7 +1,7 @@
 //! What the programs `plan` and `apply` do with the files that they were given.
 
 ghost use Rattle.std.specs.Prelude.{map};
-ghost use Rattle.tf_cli_program.specs.Work.{EndsApply, EndsPlan, IsAnswer, IsGraphAnswer, IsPlanAnswer, answer_of};
+ghost use Rattle.tf_cli_program.specs.Work.{EndsApply, EndsPlan, IsAnswer, IsGraphAnswer, IsPlanAnswer, IsSettled, answer_of};
 
 use crate::drawing::graph_text;
 use std::alloc::Global;
@@ -10,8 +10,9 @@ use std::rt::Files;
 use std::sync::Wait;
 use std::thread::Threads;
 use tf_cli::{Refused, Stop, apply_text, plan_text, print_refused, save, show, state_to_write};
-use tf_cli_files::{Place, ProgramInput, keep_state};
+use tf_cli_files::{NotInPlace, Place, ProgramInput, Settled, UNWRITTEN, keep_state};
 use tf_provider::Provider;
+use tf_provider_log::{OpenLog, Sink};
 
 /// Prints the plan's text on standard output and returns 0, or prints the refusals on standard error and returns 1. A failed
 /// write changes neither status.
@@ -63,19 +64,27 @@ fn print_answer<O: Write, E: Write>(answer: Result<String, Refused>, out: &mut O
     }
 }
 
-/// Carries out the plan of what `apply` was given with the number of workers that its options name, prints the result, writes
-/// the state if it changed, and returns the status.
-pub fn carry_out<R: Files + AllocGlobal, T: Threads + Wait + Sync, O: Write, E: Write>(
+/// Carries out the plan of what `apply` was given with the number of workers that its options name, prints the result, and writes
+/// the state if it changed. Returns the status, and why the log isn't needed any more; `None` if the state isn't written, which
+/// is status 3. The log of the calls is synced before the state is written; if it can't be, it is lost.
+pub fn carry_out<
+    R: Files + AllocGlobal,
+    T: Threads + Wait + Sync,
+    S: Sink,
+    O: Write,
+    E: Write,
+>(
     rt: &R,
     threads: &T,
     place: &Place,
+    log: &OpenLog<S>,
     given: &ProgramInput,
     providers: &[Box<dyn Provider + Sync>],
     stop: &Stop,
     out: &mut O,
     err: &mut E,
-) -> u8
-    ensures { (answer : _) × IsAnswer (map meaning providers.now) given.now answer × EndsApply answer result (O.contents out.old) (O.contents out.new) (E.contents err.old) (E.contents err.new) }
+) -> (u8, Option<Settled>)
+    ensures { (answer : _) × IsAnswer (map meaning providers.now) given.now answer × EndsApply answer result.0 (O.contents out.old) (O.contents out.new) (E.contents err.old) (E.contents err.new) × IsSettled answer result.0 result.1 }
 {
     let answer = apply_text(
         threads,
@@ -88,9 +97,14 @@ pub fn carry_out<R: Files + AllocGlobal, T: Threads + Wait + Sync, O: Write, E: 
         given.options.parallelism,
         stop,
     );
+    let _ = log.sync();
     let status = show(&answer, out, err);
     match state_to_write(answer) {
-        Some(text) => keep_state(rt, place, text.as_str(), status, out, err),
-        None => status,
+        Some(text) => match keep_state(rt, place, text, out, err) {
+            Ok(in_place) => (status, Some(Settled::Replaced(in_place))),
+            Err(NotInPlace) => (UNWRITTEN, None),
+        },
+        None if status == UNWRITTEN => (status, None),
+        None => (status, Some(Settled::UpToDate)),
     }
 }

@@ -6,12 +6,12 @@ ghost use Rattle.tf_provider_log.specs.Line.{IsEntryLine};
 ghost use Rattle.tf_provider_log.specs.True.{IsTrueOf};
 ghost use Rattle.tf_provider_protocol.specs.Meaning.{asked, answered};
 
-use crate::lines::{Added, Lost, Telling};
+use crate::lines::{Added, Lost, Synced, Telling};
 use std::marker::Model;
 use tf_provider_protocol::{Provider, Reply, Request, Schema};
 
-/// A request that the log says is begun: the right to call a provider with it, once. It can be neither copied nor
-/// dropped. Only the request's line gives one, and the call spends it.
+/// A request that the log on the disk says is begun: the right to call a provider with it, once. It can be neither
+/// copied nor dropped. Only the request's synced line gives one, and the call spends it.
 pub(crate) struct Begun<'a> {
     request: &'a Request,
 }
@@ -55,9 +55,9 @@ impl<'a, P: Provider> Telling for LoggedCall<'a, P> {
 }
 
 impl<'a> Begun<'a> {
-    /// Returns the right to call a provider, given the line that says that the request is begun.
-    pub(crate) fn by(request: &'a Request, _added: Added<'_>) -> Begun<'a>
-        requires { IsEntryLine (begun (asked request.now)) _added.text.now }
+    /// Returns the right to call a provider, given the synced line that says that the request is begun.
+    pub(crate) fn by(request: &'a Request, _synced: Synced<'_>) -> Begun<'a>
+        requires { IsEntryLine (begun (asked request.now)) _synced.text.now }
         ensures { result.request.now ≡ request.now }
     {
         Begun { request }

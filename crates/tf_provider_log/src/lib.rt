@@ -1,9 +1,9 @@
 //! The log of an apply: its text, and its use.
 //!
 //! The text says the inputs of the apply, and of each call that it was begun and how it was answered. A provider is
-//! called only after the line that says so is in the log. Its reply is returned only after the line of the reply is
-//! written, or if the log is known to be lost. Answers in a log are replayed without a call, so an interrupted apply
-//! is carried out from its log.
+//! called only after the line that says so is in the log on the disk. Its reply is returned only after the line of the
+//! reply is written, or if the log is known to be lost; the next request that is begun puts that line on the disk too.
+//! Answers in a log are replayed without a call, so an interrupted apply is carried out from its log.
 #![tactic(auto)]
 
 mod calling;
@@ -38,5 +38,5 @@ pub use replay_laws::{
 };
 pub use replaying::Replayed;
 pub use shared::providers_are_shared;
-pub use sink::{NotAdded, Sink};
+pub use sink::{Durability, NotAdded, Sink};
 pub use writing::{answered_line, begun_line, header_line, request_line};

@@ -2,7 +2,7 @@
 
 ghost use Rattle.std.specs.Prelude.{◌≡◌, IfOk};
 
-use crate::sink::{NotAdded, Sink};
+use crate::sink::{Durability, NotAdded, Sink};
 use std::sync::atomic::{AtomicBool, Ordering};
 
 /// A log line's writer, and the texts that it may write.
@@ -12,8 +12,8 @@ pub(crate) trait Telling {
     ghost may_tell: { Self → List ℕ → Type 0 };
 }
 
-/// The end of a log. Only its `add` reaches the sink. Once a text couldn't be added, the log is lost, and nothing is
-/// added after that.
+/// The end of a log. Only its methods reach the sink. Once a text couldn't be added or synced, the log is lost, and
+/// nothing is added after that.
 #[derive(Drop)]
 pub(crate) struct Lines<S: Sink> {
     sink: S,
@@ -23,6 +23,13 @@ pub(crate) struct Lines<S: Sink> {
 /// The evidence that a text is in the log. Only adding the text creates one, and it can't be copied.
 #[derive(Drop)]
 pub(crate) struct Added<'a> {
+    text: &'a str,
+}
+
+/// The evidence that a text is in the log and on the disk. Only adding the text with a sync creates one, and it can't
+/// be copied.
+#[derive(Drop)]
+pub(crate) struct Synced<'a> {
     text: &'a str,
 }
 
@@ -46,11 +53,36 @@ impl<S: Sink> Lines<S> {
         requires { T.may_tell _teller.now text.now }
         ensures { IfOk result (λ added. added.text.now ≡ text.now) }
     {
-        if self.is_lost.load(Ordering::SeqCst) {
+        self.store(text, Durability::Written)?;
+        Ok(Added { text })
+    }
+
+    /// Adds a text that its writer may write, and syncs it and all texts before it, unless the log is lost. If that
+    /// fails, the log is lost.
+    pub(crate) fn add_synced<'a, T: Telling>(
+        &self,
+        _teller: &T,
+        text: &'a str,
+    ) -> Result<Synced<'a>, Lost>
+        requires { T.may_tell _teller.now text.now }
+        ensures { IfOk result (λ synced. synced.text.now ≡ text.now) }
+    {
+        self.store(text, Durability::OnDisk)?;
+        Ok(Synced { text })
+    }
+
+    /// Syncs all texts so far, unless the log is lost. If that fails, the log is lost.
+    pub(crate) fn sync(&self) -> Result<(), Lost> {
+        self.store("", Durability::OnDisk)
+    }
+
+    /// Stores a text, unless the log is lost. If that fails, the log is lost.
+    fn store(&self, text: &str, durability: Durability) -> Result<(), Lost> {
+        if self.is_lost() {
             return Err(Lost { seen: () });
         }
-        match self.sink.add(text) {
-            Ok(()) => Ok(Added { text }),
+        match self.sink.add(text, durability) {
+            Ok(()) => Ok(()),
             Err(NotAdded) => Err(self.lose()),
         }
     }

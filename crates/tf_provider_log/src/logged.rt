@@ -9,9 +9,9 @@ use std::alloc::Global;
 use std::sync::Arc;
 use tf_provider_protocol::{Provider, Reply, Request, Schema};
 
-/// A provider that is called only after the log says that the request is begun, and whose replies are in the log
-/// before they are returned. If the log can't be written, the provider isn't called, and the reply is `NoMemory`.
-/// Several providers may share a log.
+/// A provider that is called only after the log on the disk says that the request is begun, and whose replies are in
+/// the log before they are returned. If the log can't be written or synced, the provider isn't called, and the reply
+/// is `NoMemory`. Several providers may share a log.
 #[derive(Drop)]
 pub struct Logged<P: Provider, S: Sink> {
     alloc: Global,

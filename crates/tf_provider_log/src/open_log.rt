@@ -8,7 +8,7 @@ ghost use Rattle.tf_provider_protocol.specs.Meaning.{asked, answered};
 use crate::calling::{Begun, LoggedCall};
 use crate::entry::Header;
 use crate::lines::{Lines, Telling};
-use crate::sink::Sink;
+use crate::sink::{NotAdded, Sink};
 use crate::writing::{answered_line, begun_line, header_line};
 use std::alloc::Global;
 use std::error::Error;
@@ -21,7 +21,7 @@ use tf_provider_protocol::{Provider, Reply, Request};
 pub enum NotStarted {
     /// Memory ran out. Nothing was written.
     OutOfMemory,
-    /// The first line couldn't be written, or was written before.
+    /// The first line couldn't be written or synced, or was written before.
     NotWritten,
 }
 
@@ -47,8 +47,10 @@ impl Telling for Header {
     ghost may_tell = { λ header text. IsHeaderLine header text };
 }
 
-/// A log to which the providers that share it add lines by their calls. Once a line couldn't be written, the log is
-/// lost: no line is added and no request is begun after that.
+/// A log to which the providers that share it add lines by their calls. The line that says that a request is begun is
+/// synced, and with it all lines before it; the line of a reply is only written. So a reply is on the disk before a
+/// request is begun that depends on it. Once a line couldn't be written or synced, the log is lost: no line is added
+/// and no request is begun after that.
 #[derive(Drop)]
 pub struct OpenLog<S: Sink> {
     lines: Lines<S>,
@@ -73,7 +75,7 @@ impl<S: Sink> OpenLog<S> {
         let Ok(line) = header_line(alloc, header) else {
             return Err(NotStarted::OutOfMemory);
         };
-        match self.lines.add(header, line.as_str()) {
+        match self.lines.add_synced(header, line.as_str()) {
             Ok(_) => {
                 self.is_open.store(true, Ordering::SeqCst);
                 Ok(())
@@ -82,14 +84,26 @@ impl<S: Sink> OpenLog<S> {
         }
     }
 
-    /// Returns whether a line couldn't be written. Then the log doesn't say all that was done.
+    /// Returns whether a line couldn't be written or synced. Then the log may not say all that was done.
     pub fn is_lost(&self) -> bool {
         self.lines.is_lost()
     }
 
-    /// Writes that a request is begun, and returns the right to call a provider with it. Fails if the log isn't
-    /// started or is lost, if no line can be built for the request, or if the line can't be written; in the last case
-    /// the log is lost.
+    /// Syncs the lines of all replies so far.
+    ///
+    /// # Errors
+    ///
+    /// Fails if the log is lost, which it is if the sync fails.
+    pub fn sync(&self) -> Result<(), NotAdded> {
+        match self.lines.sync() {
+            Ok(()) => Ok(()),
+            Err(_) => Err(NotAdded),
+        }
+    }
+
+    /// Writes that a request is begun, syncs the log, and returns the right to call a provider with it. Fails if the
+    /// log isn't started or is lost, if no line can be built for the request, or if the line can't be written or
+    /// synced; in the last case the log is lost.
     pub(crate) fn begin<'a>(
         &self,
         alloc: Global,
@@ -103,13 +117,14 @@ impl<S: Sink> OpenLog<S> {
         let Ok(line) = begun_line(alloc, request) else {
             return Err(NotBegun);
         };
-        match self.lines.add(request, line.as_str()) {
-            Ok(added) => Ok(Begun::by(request, added)),
+        match self.lines.add_synced(request, line.as_str()) {
+            Ok(synced) => Ok(Begun::by(request, synced)),
             Err(_) => Err(NotBegun),
         }
     }
 
-    /// Writes a provider's reply, and returns the reply. If it can't be written, the log is lost.
+    /// Writes a provider's reply, and returns the reply. Its line is on the disk after the next sync. If it can't be
+    /// written, the log is lost.
     pub(crate) fn end<P: Provider>(&self, alloc: Global, called: LoggedCall<'_, P>) -> Reply
         requires { IsTrueOf (P.meaning called.provider.now) (replied (asked called.request.now) (answered called.reply)) }
         ensures { result ≡ called.entry.reply }
