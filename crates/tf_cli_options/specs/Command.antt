@@ -35,26 +35,27 @@ AreForms forms = map (λ form. form.now) forms.now ≡ codes "dot" ∷ []
 abbrev pub graph_rule : Forms → Rule
 graph_rule forms = record (option_rule (codes "graph")) { parser = Some (vp.Names forms) }
 
--- a flag `--progress`
-abbrev pub progress_rule : Rule
-progress_rule = record (new_rule (codes "progress")) { long = Some (codes "progress"); action = Some SetTrue }
+-- a flag `--NAME`
+abbrev pub flag_rule : Text → Rule
+flag_rule name = record (new_rule name) { long = Some name; action = Some SetTrue }
 
 -- `plan` draws a graph, and `apply` prints progress; neither takes the other's option
 abbrev pub own_rule : Program → Forms → Rule
 own_rule Plan forms = graph_rule forms
-own_rule Apply forms = progress_rule
+own_rule Apply forms = flag_rule (codes "progress")
 
 -- The options of both programs: the files of the configuration, of the variables' values and of the state, the
--- lineage of a new state, the number of workers, and after how many calls to stop.
+-- lineage of a new state, the number of workers, after how many calls to stop, and whether errors are explained.
 unfoldable pub shared_app : App
 shared_app =
-    with_rule (with_rule (with_rule (with_rule (with_rule (with_rule (new_app (codes "bixundor"))
+    with_rule (with_rule (with_rule (with_rule (with_rule (with_rule (with_rule (new_app (codes "bixundor"))
     (default_rule (codes "config") (codes "main.tf.json")))
     (option_rule (codes "vars")))
     (default_rule (codes "state") (codes "terraform.tfstate")))
     (default_rule (codes "lineage") (codes "00000000-0000-0000-0000-000000000000")))
     workers_rule)
-    stop_rule
+    stop_rule)
+    (flag_rule (codes "explain"))
 
 -- the command line of a program
 abbrev pub options_app : Program → Forms → App

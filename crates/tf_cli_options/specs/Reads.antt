@@ -39,3 +39,4 @@ pub record Reads (o : Options) (rows : List Row) : Type 0 where
   pub stop_after : IsStop (one_of (codes "stop-after") rows) o.stop_after
   pub graph : o.graph ≡ option_and_then form_named (first_of (codes "graph") rows)
   pub progress : IsFlag (one_of (codes "progress") rows) o.progress
+  pub explain : IsFlag (one_of (codes "explain") rows) o.explain

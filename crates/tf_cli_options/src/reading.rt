@@ -2,7 +2,7 @@
 
 ghost use Rattle.std.specs.Prelude.{◌≡◌, ◌≤◌, false, IfOk, IfSome, codes, map, option_and_then, option_map, string_bytes};
 ghost use Rattle.clap.specs.Words.{FailsBy, app_of, fault_of, first_of, found_of, matches_of, one_of, rows_of, rule_of};
-ghost use Rattle.tf_cli_options.specs.Command.{AreForms, default_rule, Forms, graph_rule, option_rule, options_app, own_rule, progress_rule, shared_app, stop_rule, workers_rule};
+ghost use Rattle.tf_cli_options.specs.Command.{AreForms, default_rule, Forms, flag_rule, graph_rule, option_rule, options_app, own_rule, shared_app, stop_rule, workers_rule};
 ghost use Rattle.tf_cli_options.specs.Reads.{IsFlag, IsStop, IsWorkers, Reads, form_named, given_or};
 
 use crate::words::{GraphForm, Options, Program};
@@ -72,7 +72,8 @@ fn shared_command<'a>(alloc: Global) -> Result<Command<'a>, AllocError>
             "The lineage of a new state",
         ))?
         .arg(workers_option(alloc))?
-        .arg(stop_option(alloc))
+        .arg(stop_option(alloc))?
+        .arg(explain_option(alloc))
 }
 
 /// Returns the option that only this program has.
@@ -100,12 +101,34 @@ fn graph_option<'a>(alloc: Global, forms: &'a [&'a str]) -> Arg<'a>
 }
 
 fn progress_option<'a>(alloc: Global) -> Arg<'a>
-    ensures rule { rule_of result ≡ progress_rule }
+    ensures rule { rule_of result ≡ flag_rule (codes "progress") }
     ensures local { result.global ≡ false }
 {
-    Arg::new(alloc, "progress")
-        .long("progress")
-        .help("Tells as calls of providers begin and end, also where standard error is no terminal")
+    flag_option(
+        alloc,
+        "progress",
+        "Tells as calls of providers begin and end, also where standard error is no terminal",
+    )
+}
+
+fn explain_option<'a>(alloc: Global) -> Arg<'a>
+    ensures rule { rule_of result ≡ flag_rule (codes "explain") }
+    ensures local { result.global ≡ false }
+{
+    flag_option(
+        alloc,
+        "explain",
+        "Shows where an error is and what is wrong, even if standard error is not a terminal",
+    )
+}
+
+fn flag_option<'a>(alloc: Global, name: &'a str, help: &'a str) -> Arg<'a>
+    ensures rule { rule_of result ≡ flag_rule name.now }
+    ensures local { result.global ≡ false }
+{
+    Arg::new(alloc, name)
+        .long(name)
+        .help(help)
         .action(ArgAction::SetTrue)
 }
 
@@ -167,7 +190,8 @@ fn options_in(alloc: Global, matches: &ArgMatches<'_>) -> Result<Options, AllocE
         parallelism: workers_in(matches),
         stop_after: stop_in(matches),
         graph: graph_in(matches),
-        progress: progress_in(matches),
+        progress: flag_in(matches, "progress"),
+        explain: flag_in(matches, "explain"),
     })
 }
 
@@ -235,8 +259,8 @@ fn form_named(name: &str) -> Option<GraphForm>
     }
 }
 
-fn progress_in(matches: &ArgMatches<'_>) -> bool
-    ensures { IsFlag (one_of (codes "progress") (rows_of (found_of matches.now))) result }
+fn flag_in(matches: &ArgMatches<'_>, name: &str) -> bool
+    ensures { IsFlag (one_of name.now (rows_of (found_of matches.now))) result }
 {
-    matches.get_flag("progress")
+    matches.get_flag(name)
 }

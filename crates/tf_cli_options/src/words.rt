@@ -8,6 +8,7 @@
 //! | `--lineage TEXT` | the lineage of a new state | `00000000-0000-0000-0000-000000000000` |
 //! | `--parallelism N` | how many workers, 1 to 64 | 10 |
 //! | `--stop-after N` | after how many calls to stop, 0 to 2,000 | doesn't stop |
+//! | `--explain` | show where an error is and what is wrong, even if standard error is not a terminal | only at a terminal |
 //! | `--graph dot` | `plan` only: print the order for Graphviz, in place of the plan's text | the text |
 //! | `--progress` | `apply` only: print progress even if standard error is not a terminal | only at a terminal |
 
@@ -46,4 +47,6 @@ pub struct Options {
     pub graph: Option<GraphForm>,
     /// Whether to print progress even if standard error is not a terminal. Only `apply` has it.
     pub progress: bool,
+    /// Whether to explain refusals and diagnostics even if standard error is not a terminal.
+    pub explain: bool,
 }

@@ -1,5 +1,6 @@
 //! The work of `apply`.
 
+use crate::explaining::{explains, sources};
 use crate::recovering::recover;
 use std::fs::File;
 use std::io;
@@ -10,6 +11,7 @@ use std::thread::Threads;
 use tf_cli_files::{CallControl, Place, ProgramInput, Seen, hold};
 use tf_cli_options::Options;
 use tf_cli_program::carry_out_logged;
+use tf_explain::Explained;
 use tf_provider::Provider;
 use tf_provider_local::LocalFile;
 use tf_provider_progress::Progress;
@@ -62,18 +64,37 @@ fn apply_by<T: Threads + Wait + Sync, O: Write, E: Write>(
     let mut providers: Vec<Box<dyn Provider + Sync>> = Vec::new(alloc);
     providers.push(Box::new(alloc, with_progress(rt, given, sim))?)?;
     providers.push(Box::new(alloc, with_progress(rt, given, local_file))?)?;
-    Ok(carry_out_logged(
+    Ok(carry_out_by(
+        rt, threads, place, file, &control, given, &providers, out, err,
+    ))
+}
+
+/// Carries out the plan with these providers, prints the result and writes the state. Errors are explained if that is asked for.
+fn carry_out_by<T: Threads + Wait + Sync, O: Write, E: Write>(
+    rt: &HostRuntime,
+    threads: &T,
+    place: &Place,
+    file: &File,
+    control: &CallControl<File>,
+    given: &ProgramInput,
+    providers: &[Box<dyn Provider + Sync>],
+    out: &mut O,
+    err: &mut E,
+) -> ExitCode {
+    let files = sources(given, place, providers);
+    let mut err = Explained::new(rt.alloc(), err, explains(rt, given), files);
+    carry_out_logged(
         rt,
         threads,
         place,
         file,
         control.log(),
         given,
-        providers.as_slice(),
+        providers,
         control.stop(),
         out,
-        err,
-    ))
+        &mut err,
+    )
 }
 
 /// Wraps a provider so that its calls are printed on standard error, if that is a terminal or `--progress` is given.

@@ -1,12 +1,14 @@
 //! The work of `plan`.
 
+use crate::explaining::{explains, sources};
 use crate::previewing::preview;
 use std::io;
 use std::io::Write;
 use std::process::ExitCode;
-use tf_cli_files::{ProgramInput, Seen, see};
+use tf_cli_files::{Place, ProgramInput, Seen, see};
 use tf_cli_options::{GraphForm, Options};
 use tf_cli_program::{print_graph, print_plan};
+use tf_explain::Explained;
 use tf_provider::Provider;
 use tf_provider_local::LocalFile;
 use tf_provider_sim::Sim;
@@ -34,12 +36,13 @@ pub fn plan<O: Write, E: Write>(
     if let Err(status) = preview(rt, &place, &mut given, past, err)? {
         return Ok(status);
     }
-    print_given(rt, &given, out, err)
+    print_given(rt, &place, &given, out, err)
 }
 
 /// Prints the plan's text, or its drawing if the options ask for that.
 fn print_given<O: Write, E: Write>(
     rt: &HostRuntime,
+    place: &Place,
     given: &ProgramInput,
     out: &mut O,
     err: &mut E,
@@ -47,9 +50,11 @@ fn print_given<O: Write, E: Write>(
     let mut providers: Vec<Box<dyn Provider + Sync>> = Vec::new(rt.alloc());
     providers.push(Box::new(rt.alloc(), Sim::new(rt.alloc())?)?)?;
     providers.push(Box::new(rt.alloc(), LocalFile::new(rt.alloc(), *rt)?)?)?;
+    let files = sources(given, place, providers.as_slice());
+    let mut err = Explained::new(rt.alloc(), err, explains(rt, given), files);
     let status = match given.options.graph {
-        Some(GraphForm::Dot) => print_graph(rt.alloc(), given, &providers, out, err),
-        None => print_plan(rt.alloc(), given, &providers, out, err),
+        Some(GraphForm::Dot) => print_graph(rt.alloc(), given, &providers, out, &mut err),
+        None => print_plan(rt.alloc(), given, &providers, out, &mut err),
     };
     Ok(ExitCode::from(status))
 }

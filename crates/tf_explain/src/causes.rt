@@ -1,0 +1,83 @@
+//! The causes of refusals and diagnostics, in sentences.
+
+mod arguments;
+mod cycle;
+mod evaluation;
+mod evaluation_terms;
+mod json;
+mod names;
+mod others;
+mod shape;
+mod shape_bodies;
+mod template;
+mod terms;
+
+use crate::causes::arguments::explain_argument;
+use crate::causes::cycle::{
+    explain_count, explain_cycle, explain_for_each, explain_unknown_instances,
+};
+use crate::causes::evaluation::explain_evaluation;
+use crate::causes::json::explain_json;
+use crate::causes::names::explain_names;
+use crate::causes::others::{
+    explain_diagnostic, explain_limit, explain_no_provider, explain_prevented, explain_state,
+};
+use crate::causes::shape::explain_shape;
+use crate::causes::template::explain_template;
+use crate::line::{ErrorLine, detail_of};
+use crate::page::Page;
+use crate::sources::Sources;
+use std::alloc::{AllocError, Global};
+
+/// Returns the explanation of a line: indented lines, or nothing if there is nothing to explain.
+///
+/// # Errors
+///
+/// Fails only if memory runs out.
+pub fn explanation<'l, 's>(
+    alloc: Global,
+    line: ErrorLine<'l>,
+    sources: Sources<'s>,
+) -> Result<String, AllocError> {
+    let mut page = Page::new(alloc);
+    let detail = detail_of(line.message);
+    match line.code {
+        1 => explain_file(&mut page, line.place, sources)?,
+        2 => explain_shape(&mut page, line.place, sources)?,
+        3 => explain_template(&mut page, line.place, detail, sources)?,
+        4 => explain_names(&mut page, line.place, sources)?,
+        5 => explain_cycle(&mut page, detail, sources)?,
+        6 => explain_count(&mut page, line.place, sources)?,
+        7 => explain_for_each(&mut page, line.place, sources)?,
+        8 => explain_unknown_instances(&mut page, line.place, sources)?,
+        9 => explain_evaluation(&mut page, line.place, detail, sources)?,
+        10 => explain_argument(&mut page, line.place, sources)?,
+        11 => explain_no_provider(&mut page, line.place, sources)?,
+        12 => explain_prevented(&mut page, line.place, sources)?,
+        13 => explain_state(&mut page, line.place, sources)?,
+        14 => explain_limit(&mut page, line.place, sources)?,
+        21..=27 => explain_diagnostic(&mut page, line, sources)?,
+        _ => {}
+    }
+    Ok(page.into_text())
+}
+
+/// Explains why a file isn't JSON.
+fn explain_file(page: &mut Page, place: &str, sources: Sources<'_>) -> Result<(), AllocError> {
+    match place {
+        "configuration" => explain_json(
+            page,
+            sources.config,
+            "Only Terraform's JSON syntax (.tf.json) is read here, not the native syntax (.tf).",
+        ),
+        "variables" => match sources.vars {
+            Some(vars) => explain_json(
+                page,
+                vars,
+                "A variables file is one JSON object: { \"NAME\": VALUE }.",
+            ),
+            None => Ok(()),
+        },
+        _ => Ok(()),
+    }
+}

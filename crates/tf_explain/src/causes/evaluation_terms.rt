@@ -1,0 +1,414 @@
+//! Which part of an expression has no value.
+
+use crate::blocks::{block, block_has, declaration, names_in};
+use crate::causes::evaluation::ReadText;
+use crate::near::Nearest;
+use crate::page::Page;
+use crate::positions::{items, member_named, top};
+use crate::sources::{SourceFile, Sources};
+use crate::span::{Span, byte_at, find_bytes, find_word};
+use std::alloc::{AllocError, Global};
+use tf_expr_syntax::{Function, Operator, Reference, Template, Term};
+use tf_provider_protocol::{Schema, schema_for};
+
+/// Explains an attribute, an index or a key that doesn't exist. Returns whether it found one.
+///
+/// # Errors
+///
+/// Fails only if memory runs out.
+pub(crate) fn explain_missing(page: &mut Page, text: ReadText<'_, '_>) -> Result<bool, AllocError> {
+    let mut is_found = false;
+    for term in text.terms {
+        let is_explained = match *term {
+            Term::Attribute(inner, name) => missing_attribute(page, text, &**inner, name.as_str())?,
+            Term::Index(inner, place) => missing_element(page, text, &**inner, &**place)?,
+            _ => false,
+        };
+        is_found = is_found || is_explained;
+    }
+    Ok(is_found)
+}
+
+/// Returns the reference of which a part is an attribute or an element.
+fn base_of(term: &Term) -> Option<&Reference> {
+    match term {
+        Term::Reference(reference) => Some(reference),
+        Term::Index(inner, _) => match &**inner {
+            Term::Reference(reference) => Some(reference),
+            _ => None,
+        },
+        _ => None,
+    }
+}
+
+/// Explains an attribute that its object doesn't have.
+fn missing_attribute<'a>(
+    page: &mut Page,
+    text: ReadText<'_, '_>,
+    inner: &'a Term,
+    name: &'a str,
+) -> Result<bool, AllocError> {
+    let Some(reference) = base_of(inner) else {
+        return Ok(false);
+    };
+    let type_name = reference.first.as_str();
+    match schema_for(text.sources.providers, type_name) {
+        Some(schema) if schema.attribute(name).is_none() => {
+            let wanted = format!(in page.alloc; ".{name}")?;
+            show_part(page, text, wanted.as_str())?;
+            say_attribute(page, type_name, name, schema)?;
+            Ok(true)
+        }
+        Some(_) => Ok(false),
+        None => missing_key(page, text, inner, name),
+    }
+}
+
+/// Says that a type has no attribute, with the nearest one.
+///
+/// # Errors
+///
+/// Fails only if memory runs out.
+pub(crate) fn say_attribute<'a>(
+    page: &mut Page,
+    type_name: &'a str,
+    name: &'a str,
+    schema: &Schema,
+) -> Result<(), AllocError> {
+    let mut nearest = Nearest::to(page.alloc, name);
+    for attribute in schema.attributes() {
+        nearest.consider(attribute.name.as_str())?;
+    }
+    let suggestion = nearest.suggestion()?;
+    page.say(&[
+        "The type `",
+        type_name,
+        "` has no attribute `",
+        name,
+        "`.",
+        suggestion.as_str(),
+    ])
+}
+
+/// Shows a part of a text, or all of it.
+fn show_part(page: &mut Page, text: ReadText<'_, '_>, part: &str) -> Result<(), AllocError> {
+    let config = text.sources.config;
+    let span = find_bytes(config.bytes, text.span, part).unwrap_or(text.span);
+    page.show(config, span)
+}
+
+/// Explains an index beyond a list, or a key that a map doesn't have.
+fn missing_element<'a>(
+    page: &mut Page,
+    text: ReadText<'_, '_>,
+    inner: &'a Term,
+    place: &'a Term,
+) -> Result<bool, AllocError> {
+    match place {
+        Term::Number(index) => missing_index(page, text, inner, *index),
+        Term::Quoted(template) if template.parts.is_empty() => {
+            missing_key(page, text, inner, template.last.as_str())
+        }
+        _ => Ok(false),
+    }
+}
+
+/// Returns the value that a variable or a local has as JSON: its file and its range.
+fn value_of<'a>(
+    alloc: Global,
+    term: &Term,
+    sources: Sources<'a>,
+) -> Result<Option<(SourceFile<'a>, Span)>, AllocError> {
+    let Term::Reference(reference) = term else {
+        return Ok(None);
+    };
+    let name = reference.name.as_str();
+    let config = sources.config;
+    if reference.first.as_str() == "local" {
+        let found = declaration(alloc, config.bytes, "locals", name)?;
+        return Ok(found.map(|member| (config, member.value)));
+    }
+    if reference.first.as_str() != "var" {
+        return Ok(None);
+    }
+    if let Some(vars) = sources.vars {
+        if let Some(member) = member_named(alloc, vars.bytes, top(vars.bytes), name)? {
+            return Ok(Some((vars, member.value)));
+        }
+    }
+    let Some(variable) = declaration(alloc, config.bytes, "variable", name)? else {
+        return Ok(None);
+    };
+    let default = member_named(alloc, config.bytes, variable.value, "default")?;
+    Ok(default.map(|member| (config, member.value)))
+}
+
+/// Explains an index beyond a list that is written out.
+fn missing_index(
+    page: &mut Page,
+    text: ReadText<'_, '_>,
+    inner: &Term,
+    index: u64,
+) -> Result<bool, AllocError> {
+    let Some((file, span)) = value_of(page.alloc, inner, text.sources)? else {
+        return Ok(false);
+    };
+    if byte_at(file.bytes, span.start) != b'[' {
+        return Ok(false);
+    }
+    let count = items(page.alloc, file.bytes, span)?.len() as u64;
+    if index < count {
+        return Ok(false);
+    }
+    let wanted = format!(in page.alloc; "[{index}]")?;
+    show_part(page, text, wanted.as_str())?;
+    let sentence = format!(in page.alloc;
+        "The list has {count} elements, counted from 0, so there is no [{index}]:"
+    )?;
+    page.say(&[sentence.as_str()])?;
+    page.show(file, span)?;
+    Ok(true)
+}
+
+/// Explains a key that a map that is written out doesn't have.
+fn missing_key(
+    page: &mut Page,
+    text: ReadText<'_, '_>,
+    inner: &Term,
+    key: &str,
+) -> Result<bool, AllocError> {
+    let Some((file, span)) = value_of(page.alloc, inner, text.sources)? else {
+        return Ok(false);
+    };
+    if byte_at(file.bytes, span.start) != b'{' {
+        return Ok(false);
+    }
+    let mut nearest = Nearest::to(page.alloc, key);
+    for name in &names_in(page.alloc, file.bytes, span)? {
+        if name.as_str() == key {
+            return Ok(false);
+        }
+        nearest.consider(name.as_str())?;
+    }
+    show_part(page, text, key)?;
+    let suggestion = nearest.suggestion()?;
+    page.say(&["The map has no key `", key, "`.", suggestion.as_str()])?;
+    page.show(file, span)?;
+    Ok(true)
+}
+
+/// Explains functions with a wrong number of arguments. Returns whether it found one.
+///
+/// # Errors
+///
+/// Fails only if memory runs out.
+pub(crate) fn explain_arity(page: &mut Page, text: ReadText<'_, '_>) -> Result<bool, AllocError> {
+    let mut is_found = false;
+    for term in text.terms {
+        let Term::Call(name, arguments) = *term else {
+            continue;
+        };
+        let name = name.as_str();
+        let Some(function) = Function::named(name) else {
+            continue;
+        };
+        let count = arguments.len();
+        if !function.takes(count) {
+            show_word(page, text, name)?;
+            let takes = takes(function);
+            let sentence = format!(in page.alloc; "`{name}` takes {takes}, and has {count} here.")?;
+            page.say(&[sentence.as_str()])?;
+            is_found = true;
+        }
+    }
+    Ok(is_found)
+}
+
+/// Shows a word of a text, or all of it.
+fn show_word(page: &mut Page, text: ReadText<'_, '_>, word: &str) -> Result<(), AllocError> {
+    let config = text.sources.config;
+    let span = find_word(config.bytes, text.span, word).unwrap_or(text.span);
+    page.show(config, span)
+}
+
+/// Returns how many arguments a function takes.
+fn takes(function: Function) -> &'static str {
+    match function {
+        Function::Length | Function::Keys | Function::Values | Function::ToSet => "1 argument",
+        Function::Merge | Function::Concat => "1 argument or more",
+        Function::Join => "2 arguments",
+    }
+}
+
+/// Explains values of wrong kinds. Returns whether it found one.
+///
+/// # Errors
+///
+/// Fails only if memory runs out.
+pub(crate) fn explain_wrong_kind(
+    page: &mut Page,
+    text: ReadText<'_, '_>,
+) -> Result<bool, AllocError> {
+    let mut is_found = false;
+    for term in text.terms {
+        if instances_mistaken(page, text, *term)? {
+            is_found = true;
+        }
+    }
+    if is_found {
+        return Ok(true);
+    }
+    for term in text.terms {
+        if let Some(sentence) = what_is_taken(*term) {
+            if !is_found {
+                page.show(text.sources.config, text.span)?;
+            }
+            page.say(&[sentence])?;
+            is_found = true;
+        }
+    }
+    Ok(is_found)
+}
+
+/// Explains a list, a map or null that is part of a text. Returns whether it found one.
+///
+/// # Errors
+///
+/// Fails only if memory runs out.
+pub(crate) fn explain_joined(
+    page: &mut Page,
+    span: Span,
+    template: &Template,
+    sources: Sources<'_>,
+) -> Result<bool, AllocError> {
+    if template.parts.len() < 2 && is_alone(template) {
+        return Ok(false);
+    }
+    page.show(sources.config, span)?;
+    page.say(&[
+        "A text joins texts, whole numbers and truth values. A list, a map, a set or null can't be part of it.",
+    ])?;
+    for part in &template.parts {
+        show_joined(page, &part.1, sources)?;
+    }
+    Ok(true)
+}
+
+/// Returns whether a template is only one interpolation, or only text.
+fn is_alone(template: &Template) -> bool {
+    match template.parts.first() {
+        Some(part) => part.0.is_empty() && template.last.is_empty(),
+        None => true,
+    }
+}
+
+/// Shows the value of a variable or a local, if it can't be part of a text.
+fn show_joined(page: &mut Page, term: &Term, sources: Sources<'_>) -> Result<(), AllocError> {
+    let Some((file, span)) = value_of(page.alloc, term, sources)? else {
+        return Ok(());
+    };
+    match byte_at(file.bytes, span.start) {
+        b'[' | b'{' | b'n' => page.show(file, span),
+        _ => Ok(()),
+    }
+}
+
+/// Explains a resource with `count` or `for_each` that is used without an index, or one without them that is used with an index.
+fn instances_mistaken(
+    page: &mut Page,
+    text: ReadText<'_, '_>,
+    term: &Term,
+) -> Result<bool, AllocError> {
+    let (inner, is_index) = match term {
+        Term::Attribute(inner, _) => (&**inner, false),
+        Term::Index(inner, _) => (&**inner, true),
+        _ => return Ok(false),
+    };
+    let Term::Reference(reference) = inner else {
+        return Ok(false);
+    };
+    let (first, name) = (reference.first.as_str(), reference.name.as_str());
+    let config = text.sources.config.bytes;
+    let Some(block) = block(page.alloc, config, first, name)? else {
+        return Ok(false);
+    };
+    let has_count = block_has(page.alloc, config, block, "count")?;
+    let has_for_each = block_has(page.alloc, config, block, "for_each")?;
+    if is_index == (has_count || has_for_each) {
+        return Ok(false);
+    }
+    let address = format!(in page.alloc; "{first}.{name}")?;
+    show_word(page, text, address.as_str())?;
+    say_instances(page, address.as_str(), has_count, has_for_each)?;
+    Ok(true)
+}
+
+/// Says how the instances of a resource are used.
+fn say_instances(
+    page: &mut Page,
+    address: &str,
+    has_count: bool,
+    has_for_each: bool,
+) -> Result<(), AllocError> {
+    if has_count {
+        return page.say(&[
+            "`",
+            address,
+            "` has `count`, so it is a list of objects. Choose one, as in ",
+            address,
+            "[0].",
+        ]);
+    }
+    if has_for_each {
+        return page.say(&[
+            "`",
+            address,
+            "` has `for_each`, so it is a map of objects. Choose one, as in ",
+            address,
+            "[\"KEY\"].",
+        ]);
+    }
+    page.say(&[
+        "`",
+        address,
+        "` has neither `count` nor `for_each`, so it is one object: leave the index out.",
+    ])
+}
+
+/// Returns which values a part of an expression takes.
+fn what_is_taken(term: &Term) -> Option<&'static str> {
+    match term {
+        Term::Call(name, _) => match Function::named(name.as_str())? {
+            Function::Length => Some(
+                "`length` takes a list, a map or a set. A text has no length here.",
+            ),
+            Function::Keys => Some("`keys` takes a map."),
+            Function::Values => Some("`values` takes a map."),
+            Function::Merge => Some("`merge` takes maps."),
+            Function::Concat => Some("`concat` takes lists."),
+            Function::Join => Some(
+                "`join` takes a separator and a list of texts, whole numbers or truth values.",
+            ),
+            Function::ToSet => Some("`toset` takes a list of texts."),
+        },
+        Term::Binary(operator, _, _) => of_operator(*operator),
+        Term::Unary(_, _) => Some("`!` takes a truth value, and `-` a whole number."),
+        Term::Index(_, _) => Some("An index takes a list and a number, or a map and a text."),
+        Term::Attribute(_, _) => Some("A name after a dot takes a map or an object."),
+        Term::Conditional(_, _, _) => Some("The condition before `?` has to be a truth value."),
+        _ => None,
+    }
+}
+
+/// Returns which values an operator takes.
+fn of_operator(operator: Operator) -> Option<&'static str> {
+    match operator {
+        Operator::Add | Operator::Subtract | Operator::Multiply => {
+            Some("`+`, `-` and `*` take whole numbers. Nothing is converted to one.")
+        }
+        Operator::Greater | Operator::GreaterOrEqual | Operator::Less | Operator::LessOrEqual =>
+            Some("Comparisons take whole numbers. Nothing is converted to one."),
+        Operator::And | Operator::Or => Some("`&&` and `||` take truth values."),
+        Operator::Equal | Operator::NotEqual => None,
+    }
+}

@@ -1,0 +1,341 @@
+//! The places of values in a JSON text, also in one that isn't valid, as far as it goes.
+//!
+//! A place is a path of property names and positions in arrays. No function here recurses, and each goes through the
+//! bytes of the text once.
+
+ghost use Rattle.std.specs.Prelude.{◌≤◌, length, IfSome};
+ghost use Rattle.tf_explain.specs.Spans.{IsIn};
+
+use crate::decoding::decoded;
+use crate::span::{Span, between_quotes, byte_at, bytes_in};
+use std::alloc::{AllocError, Global};
+
+/// The most steps of a path that are followed.
+const MOST_STEPS: usize = 128;
+
+/// A property of an object.
+#[derive(Clone, Copy, Debug)]
+pub struct Member {
+    /// Its name, with the quotes.
+    pub name: Span,
+    /// Its value.
+    pub value: Span,
+}
+
+/// What was found at a path.
+#[derive(Clone, Copy)]
+pub struct Found<'a> {
+    /// The value at the path, or that of the last step that could be followed.
+    pub value: Span,
+    /// The name of that property, with the quotes, if it is a property.
+    pub name: Option<Span>,
+    /// An earlier property of the same name in the same object.
+    pub earlier: Option<Span>,
+    /// The steps that could not be followed.
+    pub rest: &'a str,
+}
+
+/// Returns whether a byte is space between the tokens of JSON.
+pub(crate) fn is_space(byte: u8) -> bool {
+    matches!(byte, b' ' | b'\t' | b'\n' | b'\r')
+}
+
+/// Returns the first position from this one on that isn't space.
+pub(crate) fn skip_space(text: &[u8], from: usize) -> usize
+    ensures within { result ≤ length text.now }
+    ensures onward { from ≤ length text.now → from ≤ result }
+{
+    for at in from..text.len() {
+        if !is_space(text[at]) {
+            return at;
+        }
+    }
+    text.len()
+}
+
+/// Returns the position after the text whose opening quote is at this position.
+pub(crate) fn string_end(text: &[u8], quote: usize) -> usize
+    ensures within { result ≤ length text.now }
+    ensures onward { quote ≤ length text.now → quote ≤ result }
+{
+    let mut is_escaped = false;
+    for at in quote.saturating_add(1)..text.len() {
+        let byte = text[at];
+        if !is_escaped && byte == b'"' {
+            return at + 1;
+        }
+        is_escaped = !is_escaped && byte == b'\\';
+    }
+    text.len()
+}
+
+/// Returns the position after the value that begins at this position.
+pub(crate) fn value_end(text: &[u8], from: usize) -> usize
+    ensures within { result ≤ length text.now }
+    ensures onward { from ≤ length text.now → from ≤ result }
+{
+    match byte_at(text, from) {
+        b'"' => string_end(text, from),
+        b'{' | b'[' => container_end(text, from),
+        _ => word_end(text, from),
+    }
+}
+
+/// Returns the position after the number or the word that begins at this position.
+fn word_end(text: &[u8], from: usize) -> usize
+    ensures within { result ≤ length text.now }
+    ensures onward { from ≤ length text.now → from ≤ result }
+{
+    for at in from..text.len() {
+        if matches!(text[at], b',' | b':' | b'"' | b'{' | b'}' | b'[' | b']')
+            || is_space(text[at])
+        {
+            return at;
+        }
+    }
+    text.len()
+}
+
+/// Returns the position after the object or the array that begins at this position. Texts in it may have brackets.
+fn container_end(text: &[u8], from: usize) -> usize
+    ensures within { result ≤ length text.now }
+    ensures onward { from ≤ length text.now → from ≤ result }
+{
+    let mut depth = 0usize;
+    let mut is_quoted = false;
+    let mut is_escaped = false;
+    for at in from..text.len() {
+        let byte = text[at];
+        if is_quoted {
+            is_quoted = is_escaped || byte != b'"';
+            is_escaped = !is_escaped && byte == b'\\';
+        } else if byte == b'"' {
+            is_quoted = true;
+        } else if byte == b'{' || byte == b'[' {
+            depth = depth.saturating_add(1);
+        } else if byte == b'}' || byte == b']' {
+            depth = depth.saturating_sub(1);
+            if depth == 0 {
+                return at + 1;
+            }
+        }
+    }
+    text.len()
+}
+
+/// Returns the whole value of a text.
+pub fn top(text: &[u8]) -> Span
+    ensures { IsIn text.now result }
+{
+    let start = skip_space(text, 0);
+    Span {
+        start,
+        end: value_end(text, start),
+    }
+}
+
+/// Returns the next property of an object, from a position in it on.
+fn next_member(text: &[u8], from: usize) -> Option<Member>
+    ensures name { IfSome result (λ m. IsIn text.now m.name) }
+    ensures value { IfSome result (λ m. IsIn text.now m.value) }
+{
+    let start = after_comma(text, from);
+    if byte_at(text, start) != b'"' {
+        return None;
+    }
+    let end = string_end(text, start);
+    let colon = skip_space(text, end);
+    if byte_at(text, colon) != b':' {
+        return None;
+    }
+    let value = skip_space(text, colon.saturating_add(1));
+    Some(Member {
+        name: Span { start, end },
+        value: Span {
+            start: value,
+            end: value_end(text, value),
+        },
+    })
+}
+
+/// Returns the position of what comes next, after space and a comma if there is one.
+fn after_comma(text: &[u8], from: usize) -> usize
+    ensures { result ≤ length text.now }
+{
+    let at = skip_space(text, from);
+    if byte_at(text, at) == b',' {
+        skip_space(text, at.saturating_add(1))
+    } else {
+        at
+    }
+}
+
+/// Returns the properties of the object in a range, in their order. It has none if it is no object.
+///
+/// # Errors
+///
+/// Fails only if memory runs out.
+pub fn members(alloc: Global, text: &[u8], object: Span) -> Result<Vec<Member>, AllocError> {
+    let mut found = Vec::new(alloc);
+    if byte_at(text, object.start) != b'{' {
+        return Ok(found);
+    }
+    let mut at = object.start.saturating_add(1);
+    for _ in 0..text.len() {
+        let Some(member) = next_member(text, at) else {
+            break;
+        };
+        at = member.value.end;
+        found.push(member)?;
+    }
+    Ok(found)
+}
+
+/// Returns the elements of the array in a range, in their order. It has none if it is no array.
+///
+/// # Errors
+///
+/// Fails only if memory runs out.
+pub fn items(alloc: Global, text: &[u8], array: Span) -> Result<Vec<Span>, AllocError> {
+    let mut found = Vec::new(alloc);
+    if byte_at(text, array.start) != b'[' {
+        return Ok(found);
+    }
+    let mut at = array.start.saturating_add(1);
+    for _ in 0..text.len() {
+        let start = after_comma(text, at);
+        let end = value_end(text, start);
+        if end <= start {
+            break;
+        }
+        at = end;
+        found.push(Span { start, end })?;
+    }
+    Ok(found)
+}
+
+/// Returns the last property of a name in an object.
+///
+/// # Errors
+///
+/// Fails only if memory runs out.
+pub fn member_named(
+    alloc: Global,
+    text: &[u8],
+    object: Span,
+    name: &str,
+) -> Result<Option<Member>, AllocError> {
+    let mut last = None;
+    for member in &members(alloc, text, object)? {
+        if name_of(alloc, text, member)?.as_str() == name {
+            last = Some(*member);
+        }
+    }
+    Ok(last)
+}
+
+/// Returns the name of a property, decoded.
+///
+/// # Errors
+///
+/// Fails only if memory runs out.
+pub fn name_of(alloc: Global, text: &[u8], member: &Member) -> Result<String, AllocError> {
+    decoded(alloc, bytes_in(text, between_quotes(text, member.name)))
+}
+
+/// Follows a path of property names and array positions, joined by dots, from the top of a text. If the path can be read in
+/// several ways, it follows the longest names. If a property occurs twice, it follows the last one.
+///
+/// # Errors
+///
+/// Fails only if memory runs out.
+pub fn find<'a>(alloc: Global, text: &[u8], path: &'a str) -> Result<Found<'a>, AllocError> {
+    let mut found = Found {
+        value: top(text),
+        name: None,
+        earlier: None,
+        rest: path,
+    };
+    for _ in 0..MOST_STEPS {
+        match step(alloc, text, found)? {
+            Some(next) => found = next,
+            None => break,
+        }
+    }
+    Ok(found)
+}
+
+/// Follows one step of a path.
+fn step<'a>(alloc: Global, text: &[u8], from: Found<'a>) -> Result<Option<Found<'a>>, AllocError> {
+    if from.rest.is_empty() {
+        return Ok(None);
+    }
+    match byte_at(text, from.value.start) {
+        b'{' => member_step(alloc, text, from),
+        b'[' => item_step(alloc, text, from),
+        _ => Ok(None),
+    }
+}
+
+/// Follows a step to a property: the one with the longest name with which the path begins.
+fn member_step<'a>(
+    alloc: Global,
+    text: &[u8],
+    from: Found<'a>,
+) -> Result<Option<Found<'a>>, AllocError> {
+    let mut best: Option<Found<'a>> = None;
+    let mut longest = 0usize;
+    for member in &members(alloc, text, from.value)? {
+        let name = name_of(alloc, text, member)?;
+        let Some(rest) = rest_after(from.rest, name.as_str()) else {
+            continue;
+        };
+        let length = name.len().saturating_add(1);
+        if length >= longest {
+            let earlier = match best {
+                Some(other) if length == longest => other.name,
+                _ => None,
+            };
+            longest = length;
+            best = Some(Found {
+                value: member.value,
+                name: Some(member.name),
+                earlier,
+                rest,
+            });
+        }
+    }
+    Ok(best)
+}
+
+/// Follows a step to an element of an array.
+fn item_step<'a>(
+    alloc: Global,
+    text: &[u8],
+    from: Found<'a>,
+) -> Result<Option<Found<'a>>, AllocError> {
+    let (first, rest) = from.rest.split_once(".").unwrap_or((from.rest, ""));
+    let Ok(position) = first.parse::<usize>() else {
+        return Ok(None);
+    };
+    let items = items(alloc, text, from.value)?;
+    match items.get(position) {
+        Some(item) => Ok(Some(Found {
+            value: *item,
+            name: None,
+            earlier: None,
+            rest,
+        })),
+        None => Ok(None),
+    }
+}
+
+/// Returns the steps after a name, if a path begins with it.
+fn rest_after<'a>(path: &'a str, name: &str) -> Option<&'a str> {
+    let rest = path.strip_prefix(name)?;
+    if rest.is_empty() {
+        Some(rest)
+    } else {
+        rest.strip_prefix(".")
+    }
+}
