@@ -34,9 +34,9 @@ CutLogsAreRecovered =
 pub data AreSome : List LogEntryView → List (List ℕ) → List LogEntryView → List (List ℕ) → Type 0 where
   nothing : AreSome [] [] [] []
   keeps : (e : LogEntryView) (text : List ℕ) (some es : List LogEntryView) (some_texts texts : List (List ℕ))
-    → AreSome some some_texts es texts → AreSome (e ∷ some) (text ∷ some_texts) (e ∷ es) (text ∷ texts)
+      → AreSome some some_texts es texts → AreSome (e ∷ some) (text ∷ some_texts) (e ∷ es) (text ∷ texts)
   loses : (e : LogEntryView) (text : List ℕ) (some es : List LogEntryView) (some_texts texts : List (List ℕ))
-    → AreSome some some_texts es texts → AreSome some some_texts (e ∷ es) (text ∷ texts)
+      → AreSome some some_texts es texts → AreSome some some_texts (e ∷ es) (text ∷ texts)
 
 -- So it is too if only some of the lines after the first are left, as after a loss of power, and these are cut at any byte.
 abbrev pub KeptLinesAreRecovered : Type 0

@@ -167,8 +167,7 @@ where
     if let Err(status) = start(rt, place, log, given, err) {
         return status;
     }
-    let (status, settled) =
-        carry_out(rt, threads, place, log, given, providers, stop, out, err);
+    let (status, settled) = carry_out(rt, threads, place, log, given, providers, stop, out, err);
     if log.is_lost() {
         tell_lost(place.log.as_str(), err);
     }

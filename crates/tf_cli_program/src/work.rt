@@ -67,13 +67,7 @@ fn print_answer<O: Write, E: Write>(answer: Result<String, Refused>, out: &mut O
 /// Carries out the plan of what `apply` was given with the number of workers that its options name, prints the result, and writes
 /// the state if it changed. Returns the status, and why the log isn't needed any more; `None` if the state isn't written, which
 /// is status 3. The log of the calls is synced before the state is written; if it can't be, it is lost.
-pub fn carry_out<
-    R: Files + AllocGlobal,
-    T: Threads + Wait + Sync,
-    S: Sink,
-    O: Write,
-    E: Write,
->(
+pub fn carry_out<R: Files + AllocGlobal, T: Threads + Wait + Sync, S: Sink, O: Write, E: Write>(
     rt: &R,
     threads: &T,
     place: &Place,
