@@ -1,7 +1,7 @@
 //! From the texts that the user gives to the result of carrying out their plan.
 
 ghost use Rattle.std.specs.Prelude.{◌≡◌, ◌==◌, not, true, map, option_map, IfOk, IfErr, string_bytes};
-ghost use Rattle.tf_cli.specs.Applies.{IsApplied, IsCarriedOut, MayStart};
+ghost use Rattle.tf_cli.specs.Applies.{IsApplied, IsCarriedOut, MayStart, text_in};
 ghost use Rattle.tf_cli.specs.Refusals.{AreApplyRefusals, AreRefusals, IsNumberRefused};
 ghost use Rattle.tf_cli_inputs.specs.Texts.{the_texts};
 ghost use Rattle.tf_plan_planner.specs.Refused.{Tells};
@@ -12,12 +12,11 @@ ghost use Rattle.tf_walk.specs.Workers.{are_workers};
 ghost use Rattle.tf_state_data.specs.State.{state_of};
 ghost use Rattle.tf_state.specs.Text.{state_text};
 
-use crate::planning::{InputTexts, one_refusal, plan_of_texts, shown};
+use crate::planning::{InputTexts, one_refusal, plan_of_texts, text_of};
 use std::alloc::Global;
 use std::sync::Wait;
 use std::thread::Threads;
 use tf_cli_text::Applied;
-use tf_config_json::blocks_have_names;
 use tf_plan_data::Planned;
 use tf_plan_planner::Refused;
 use tf_provider::Provider;
@@ -52,10 +51,6 @@ pub fn apply_text<R: Threads + Wait + Sync>(
     ensures workers { IfOk result (λ _. are_workers workers ≡ true) }
     ensures refused { IfErr result (Tells (AreApplyRefusals (map meaning providers.now) (the_texts config.now (option_map (λ s. s.now) vars.entry) (option_map (λ s. s.now) state.entry)) lineage.now workers)) }
 {
-    if workers == 1 {
-        return apply_one(alloc, config, vars, state, lineage, providers, stop);
-    }
-    blocks_have_names();
     let texts = InputTexts {
         config,
         vars,
@@ -63,7 +58,7 @@ pub fn apply_text<R: Threads + Wait + Sync>(
         lineage,
     };
     match plan_of_texts(alloc, &texts, providers) {
-        Ok(planned) => carry_out(rt, alloc, &planned, providers, workers, stop),
+        Ok(planned) => apply_plan(rt, alloc, &planned, providers, workers, stop),
         Err(refused) => Err(refused),
     }
 }
@@ -87,7 +82,6 @@ pub fn apply_one(
     ensures applied { IfOk result (IsApplied (map meaning providers.now) (the_texts config.now (option_map (λ s. s.now) vars.entry) (option_map (λ s. s.now) state.entry)) lineage.now) }
     ensures refused { IfErr result (Tells (AreRefusals (map meaning providers.now) (the_texts config.now (option_map (λ s. s.now) vars.entry) (option_map (λ s. s.now) state.entry)))) }
 {
-    blocks_have_names();
     let texts = InputTexts {
         config,
         vars,
@@ -95,14 +89,14 @@ pub fn apply_one(
         lineage,
     };
     match plan_of_texts(alloc, &texts, providers) {
-        Ok(planned) => carry_out_one(alloc, &planned, providers, stop),
+        Ok(planned) => apply_plan_one(alloc, &planned, providers, stop),
         Err(refused) => Err(refused),
     }
 }
 
 /// Carries out a plan with the given number of workers, and returns its text and what the walk reports. Refuses a number that
 /// isn't 1 to 64; any other refusal is `NoMemory`.
-fn carry_out<R: Threads + Wait + Sync>(
+fn apply_plan<R: Threads + Wait + Sync>(
     rt: &R,
     alloc: Global,
     planned: &Planned,
@@ -115,7 +109,52 @@ fn carry_out<R: Threads + Wait + Sync>(
     ensures workers { IfOk result (λ _. are_workers workers ≡ true) }
     ensures refused { IfErr result (Tells (IsNumberRefused workers)) }
 {
-    let text = shown(alloc, planned)?;
+    let text = text_of(alloc, planned)?;
+    carry_out(rt, alloc, planned, text, providers, workers, stop)
+}
+
+/// Carries out a plan on the calling thread, and returns its text and what the walk reports. Refuses only if memory runs out.
+fn apply_plan_one(
+    alloc: Global,
+    planned: &Planned,
+    providers: &[Box<dyn Provider + Sync>],
+    stop: &Stop,
+) -> Result<Applied, Refused>
+    requires starts { MayStart (map meaning providers.now) (plan_of planned.now) }
+    ensures carried_out { IfOk result (IsCarriedOut (map meaning providers.now) (plan_of planned.now)) }
+    ensures refused { IfErr result (λ refused. refused ≡ NoMemory) }
+{
+    let text = text_of(alloc, planned)?;
+    carry_out_one(alloc, planned, text, providers, stop)
+}
+
+/// Carries out a plan, whose text is already made (`text_of`), as [`apply_text`] does after it planned. So a program can print
+/// the plan before the first call.
+///
+/// The providers and the plan are those of one call of [`plan_of_texts`], so each action has a provider, the prior state is valid,
+/// and the addresses of blocks consist of names (`MayStart`).
+///
+/// # Errors
+///
+/// `Workers` if `workers` isn't 1 to 64; `NoMemory` if memory runs out. Both come before any call but those of `schema`.
+pub fn carry_out<R: Threads + Wait + Sync>(
+    rt: &R,
+    alloc: Global,
+    planned: &Planned,
+    text: String,
+    providers: &[Box<dyn Provider + Sync>],
+    workers: usize,
+    stop: &Stop,
+) -> Result<Applied, Refused>
+    requires starts { MayStart (map meaning providers.now) (plan_of planned.now) }
+    requires shown { string_bytes text ≡ text_in (plan_of planned.now) }
+    ensures carried_out { IfOk result (IsCarriedOut (map meaning providers.now) (plan_of planned.now)) }
+    ensures workers { IfOk result (λ _. are_workers workers ≡ true) }
+    ensures refused { IfErr result (Tells (IsNumberRefused workers)) }
+{
+    if workers == 1 {
+        return carry_out_one(alloc, planned, text, providers, stop);
+    }
     match run(rt, alloc, planned, providers, workers, stop) {
         Ok(walked) => Ok(answer_of(alloc, text, planned.plan.prior.serial(), walked)),
         Err(refusal) => Err(one_refusal(alloc, refusal)),
@@ -126,14 +165,15 @@ fn carry_out<R: Threads + Wait + Sync>(
 fn carry_out_one(
     alloc: Global,
     planned: &Planned,
+    text: String,
     providers: &[Box<dyn Provider + Sync>],
     stop: &Stop,
 ) -> Result<Applied, Refused>
     requires starts { MayStart (map meaning providers.now) (plan_of planned.now) }
+    requires shown { string_bytes text ≡ text_in (plan_of planned.now) }
     ensures carried_out { IfOk result (IsCarriedOut (map meaning providers.now) (plan_of planned.now)) }
     ensures refused { IfErr result (λ refused. refused ≡ NoMemory) }
 {
-    let text = shown(alloc, planned)?;
     match run_one(alloc, planned, providers, stop) {
         Ok(walked) => Ok(answer_of(alloc, text, planned.plan.prior.serial(), walked)),
         Err(refusal) => Err(one_refusal(alloc, refusal)),

@@ -2,7 +2,7 @@
 
 ghost use Rattle.std.specs.Prelude.{◌≡◌, map, option_map, IfOk, IfErr, string_bytes};
 ghost use Rattle.tf_walk_action.specs.Words.{action_of, AreServed, plan_of, state_of};
-ghost use Rattle.tf_cli.specs.Applies.{IsPlanOf, IsPlanText, text_in};
+ghost use Rattle.tf_cli.specs.Applies.{IsPlanOf, IsPlanText, MayStart, text_in};
 ghost use Rattle.tf_cli.specs.Refusals.{AreRefusals, RefusesBy};
 ghost use Rattle.tf_cli_inputs.specs.Texts.{the_texts};
 ghost use Rattle.tf_config_data.specs.Config.{config_of};
@@ -12,10 +12,10 @@ ghost use Rattle.tf_value_data.specs.Tree.{entries_view};
 ghost use Rattle.tf_plan_planner.specs.declared.refused.Refused.TheVariants.{NoMemory};
 ghost use Rattle.tf_config_refusal.specs.Refusal.{refusal_of};
 ghost use Rattle.tf_state.specs.Table.{IsPlannable};
-ghost use Rattle.tf_state.specs.Valid.{IsValid};
 
 use std::alloc::Global;
 use tf_cli_inputs::{Inputs, read_texts};
+use tf_config_json::blocks_have_names;
 use tf_config_refusal::Refusal;
 use tf_plan_data::Planned;
 use tf_plan_planner::{Refused, plan};
@@ -58,13 +58,13 @@ pub fn plan_text(
         lineage: "",
     };
     match plan_of_texts(alloc, &texts, providers) {
-        Ok(planned) => shown(alloc, &planned),
+        Ok(planned) => text_of(alloc, &planned),
         Err(refused) => Err(refused),
     }
 }
 
-/// Returns the text of a plan. Refuses only if memory runs out.
-pub(crate) fn shown(alloc: Global, planned: &Planned) -> Result<String, Refused>
+/// Returns the text that shows a plan. Refuses only if memory runs out.
+pub fn text_of(alloc: Global, planned: &Planned) -> Result<String, Refused>
     ensures shown { IfOk result (λ text. string_bytes text ≡ text_in (plan_of planned.now)) }
     ensures refused { IfErr result (λ refused. refused ≡ NoMemory) }
 {
@@ -73,7 +73,8 @@ pub(crate) fn shown(alloc: Global, planned: &Planned) -> Result<String, Refused>
     Ok(text)
 }
 
-/// Plans a configuration against its prior state, or against the empty state of a lineage.
+/// Plans a configuration against its prior state, or against the empty state of a lineage. The plan may be carried out with these
+/// providers (`carry_out`).
 ///
 /// # Errors
 ///
@@ -84,10 +85,10 @@ pub fn plan_of_texts(
     providers: &[Box<dyn Provider + Sync>],
 ) -> Result<Planned, Refused>
     ensures planned { IfOk result (λ plan. IsPlanOf (map meaning providers.now) (the_texts texts.now.config.now (option_map (λ s. s.now) texts.now.vars) (option_map (λ s. s.now) texts.now.state)) texts.now.lineage.now (plan_of plan)) }
-    ensures served { IfOk result (λ plan. AreServed (map meaning providers.now) (map action_of plan.actions.items)) }
-    ensures valid { IfOk result (λ plan. IsValid (state_of plan.prior)) }
+    ensures starts { IfOk result (λ plan. MayStart (map meaning providers.now) (plan_of plan)) }
     ensures refused { IfErr result (Tells (AreRefusals (map meaning providers.now) (the_texts texts.now.config.now (option_map (λ s. s.now) texts.now.vars) (option_map (λ s. s.now) texts.now.state)))) }
 {
+    blocks_have_names();
     match read_texts(alloc, texts.config, texts.vars, texts.state, texts.lineage) {
         Ok(inputs) => planned_from(alloc, inputs, providers),
         Err(refusal) => Err(one_refusal(alloc, refusal)),

@@ -14,6 +14,7 @@ mod reading;
 mod replacing;
 mod replaying;
 mod seeing;
+mod stop_file;
 mod stopping;
 mod telling;
 
@@ -28,6 +29,7 @@ pub use program::run;
 pub use replacing::{InPlace, NotInPlace, keep_state, sync_folder};
 pub use replaying::both_replayed;
 pub use seeing::{Seen, hold, see};
+pub use stop_file::StopFile;
 pub use stopping::Stopping;
 pub use telling::{
     tell_lost, tell_misfit, tell_no_log, tell_no_memory, tell_past, tell_unrecovered,

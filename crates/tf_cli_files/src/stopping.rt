@@ -2,33 +2,47 @@
 
 ghost use Rattle.std.specs.Prelude.{◌≡◌};
 
+use crate::stop_file::StopFile;
 use std::sync::Arc;
 use std::sync::atomic::{AtomicUsize, Ordering};
 use tf_provider_protocol::{Provider, Reply, Request, Schema};
 use tf_walk_action::Stop;
 
-/// The number of calls after which the walk stops, and the stop flag. Several providers share one.
+/// When the walk stops, and the stop flag. Several providers share one.
 #[derive(Drop)]
 pub struct Countdown {
     /// The number of the call that sets the flag before it returns; the first is 1. `None` never sets it.
     last: Option<usize>,
     /// How many calls were made.
     calls: AtomicUsize,
+    /// The file that sets the flag, which is looked for before the first call and after each one.
+    file: Option<StopFile>,
     stop: Stop,
 }
 
 impl Countdown {
-    /// Returns a countdown before any call, with the number of the call that sets the flag. With 0 the flag is set
-    /// from the start.
-    pub fn new(last: Option<usize>) -> Countdown {
-        let stop = Stop::new();
-        if last == Some(0) {
-            stop.set();
-        }
-        Countdown {
+    /// Returns a countdown before any call, with the number of the call that sets the flag, and the file that sets it once it
+    /// exists. With 0, or if the file exists, the flag is set from the start.
+    pub fn new(last: Option<usize>, file: Option<StopFile>) -> Countdown {
+        let countdown = Countdown {
             last,
             calls: AtomicUsize::new(0),
-            stop,
+            file,
+            stop: Stop::new(),
+        };
+        if last == Some(0) {
+            countdown.stop.set();
+        }
+        countdown.look();
+        countdown
+    }
+
+    /// Sets the flag if the file exists.
+    fn look(&self) {
+        if let Some(file) = &self.file
+            && file.exists()
+        {
+            self.stop.set();
         }
     }
 
@@ -42,8 +56,9 @@ impl Countdown {
         self.calls.fetch_add(1, Ordering::SeqCst)
     }
 
-    /// Sets the flag if this is the last call.
+    /// Sets the flag if this is the last call, or if the file exists.
     fn end(&self, before: usize) {
+        self.look();
         if let Some(last) = self.last
             && last.checked_sub(1) == Some(before)
         {

@@ -39,24 +39,30 @@ graph_rule forms = record (option_rule (codes "graph")) { parser = Some (vp.Name
 abbrev pub flag_rule : Text → Rule
 flag_rule name = record (new_rule name) { long = Some name; action = Some SetTrue }
 
--- `plan` draws a graph, and `apply` prints progress; neither takes the other's option
-abbrev pub own_rule : Program → Forms → Rule
-own_rule Plan forms = graph_rule forms
-own_rule Apply forms = flag_rule (codes "progress")
-
 -- The options of both programs: the files of the configuration, of the variables' values and of the state, the
--- lineage of a new state, the number of workers, after how many calls to stop, and whether errors are explained.
+-- lineage of a new state, the number of workers, after how many calls to stop, whether errors are explained, and whether a plan is
+-- printed with the old values.
 unfoldable pub shared_app : App
 shared_app =
-    with_rule (with_rule (with_rule (with_rule (with_rule (with_rule (with_rule (new_app (codes "bixundor"))
+    with_rule (with_rule (with_rule (with_rule (with_rule (with_rule (with_rule (with_rule (new_app (codes "bixundor"))
     (default_rule (codes "config") (codes "main.tf.json")))
     (option_rule (codes "vars")))
     (default_rule (codes "state") (codes "terraform.tfstate")))
     (default_rule (codes "lineage") (codes "00000000-0000-0000-0000-000000000000")))
     workers_rule)
     stop_rule)
-    (flag_rule (codes "explain"))
+    (flag_rule (codes "explain")))
+    (flag_rule (codes "diff"))
+
+-- `plan` also draws a graph, prints JSON, and says by its status whether there are changes
+abbrev pub plan_app : Forms → App
+plan_app forms = with_rule (with_rule (with_rule shared_app (graph_rule forms)) (flag_rule (codes "json"))) (flag_rule (codes "detailed-exitcode"))
+
+-- `apply` also prints progress, may be kept from asking for approval, and stops once a file exists
+abbrev pub apply_app : App
+apply_app = with_rule (with_rule (with_rule shared_app (flag_rule (codes "progress"))) (flag_rule (codes "auto-approve"))) (option_rule (codes "stop-file"))
 
 -- the command line of a program
 abbrev pub options_app : Program → Forms → App
-options_app program forms = with_rule shared_app (own_rule program forms)
+options_app Plan forms = plan_app forms
+options_app Apply forms = apply_app

@@ -29,7 +29,7 @@ form_named name = if bytes_eq name (codes "dot") then Some Dot else None
 abbrev pub IsFlag : Option Text → Bool → Type 0
 IsFlag given set = MatchOption given (set ≡ false) (λ text. (text ≡ codes "true" → set ≡ true) × (text ≡ codes "false" → set ≡ false))
 
--- Each option has its given value, or its default. The file of the variables' values has no default.
+-- Each option has its given value, or its default. The files of the variables' values and of a stop have no default.
 pub record Reads (o : Options) (rows : List Row) : Type 0 where
   pub config : string_bytes o.config ≡ given_or (codes "config") (codes "main.tf.json") rows
   pub vars : option_map (λ s. string_bytes s) o.vars ≡ first_of (codes "vars") rows
@@ -38,5 +38,10 @@ pub record Reads (o : Options) (rows : List Row) : Type 0 where
   pub parallelism : IsWorkers (one_of (codes "parallelism") rows) o.parallelism
   pub stop_after : IsStop (one_of (codes "stop-after") rows) o.stop_after
   pub graph : o.graph ≡ option_and_then form_named (first_of (codes "graph") rows)
+  pub json : IsFlag (one_of (codes "json") rows) o.json
+  pub detailed_exitcode : IsFlag (one_of (codes "detailed-exitcode") rows) o.detailed_exitcode
   pub progress : IsFlag (one_of (codes "progress") rows) o.progress
+  pub auto_approve : IsFlag (one_of (codes "auto-approve") rows) o.auto_approve
+  pub stop_file : option_map (λ s. string_bytes s) o.stop_file ≡ first_of (codes "stop-file") rows
   pub explain : IsFlag (one_of (codes "explain") rows) o.explain
+  pub diff : IsFlag (one_of (codes "diff") rows) o.diff

@@ -2,7 +2,7 @@
 
 ghost use Rattle.std.specs.Prelude.{◌≡◌, ◌≤◌, false, IfOk, IfSome, codes, map, option_and_then, option_map, string_bytes};
 ghost use Rattle.clap.specs.Words.{FailsBy, app_of, fault_of, first_of, found_of, matches_of, one_of, rows_of, rule_of};
-ghost use Rattle.tf_cli_options.specs.Command.{AreForms, default_rule, Forms, flag_rule, graph_rule, option_rule, options_app, own_rule, shared_app, stop_rule, workers_rule};
+ghost use Rattle.tf_cli_options.specs.Command.{apply_app, AreForms, default_rule, Forms, flag_rule, graph_rule, option_rule, options_app, plan_app, shared_app, stop_rule, workers_rule};
 ghost use Rattle.tf_cli_options.specs.Reads.{IsFlag, IsStop, IsWorkers, Reads, form_named, given_or};
 
 use crate::words::{GraphForm, Options, Program};
@@ -45,7 +45,7 @@ fn parsed<'a>(
     command(alloc, program, forms)?.try_get_matches_from(words)
 }
 
-/// Returns the command of a program: the shared options, and the program's own one.
+/// Returns the command of a program: the shared options, and the program's own ones.
 fn command<'a>(
     alloc: Global,
     program: Program,
@@ -53,7 +53,47 @@ fn command<'a>(
 ) -> Result<Command<'a>, AllocError>
     ensures { IfOk result (λ c. app_of c ≡ options_app program forms.entry) }
 {
-    shared_command(alloc)?.arg(own_option(alloc, program, forms))
+    match program {
+        Program::Plan => plan_command(alloc, forms),
+        Program::Apply => apply_command(alloc),
+    }
+}
+
+/// Returns the command of `plan`.
+fn plan_command<'a>(alloc: Global, forms: &'a [&'a str]) -> Result<Command<'a>, AllocError>
+    ensures { IfOk result (λ c. app_of c ≡ plan_app forms.entry) }
+{
+    shared_command(alloc)?
+        .arg(graph_option(alloc, forms))?
+        .arg(flag_option(
+            alloc,
+            "json",
+            "Prints the plan as JSON, in the form of Terraform's plan representation",
+        ))?
+        .arg(flag_option(
+            alloc,
+            "detailed-exitcode",
+            "Exits with 2 if the plan has changes",
+        ))
+}
+
+/// Returns the command of `apply`.
+fn apply_command<'a>(alloc: Global) -> Result<Command<'a>, AllocError>
+    ensures { IfOk result (λ c. app_of c ≡ apply_app) }
+{
+    shared_command(alloc)?
+        .arg(progress_option(alloc))?
+        .arg(flag_option(
+            alloc,
+            "auto-approve",
+            "Doesn't ask for approval of the plan at a terminal",
+        ))?
+        .arg(option(
+            alloc,
+            "stop-file",
+            "FILE",
+            "Begins no further call once this file exists",
+        ))
 }
 
 /// Returns the command with the options that the programs share.
@@ -73,18 +113,12 @@ fn shared_command<'a>(alloc: Global) -> Result<Command<'a>, AllocError>
         ))?
         .arg(workers_option(alloc))?
         .arg(stop_option(alloc))?
-        .arg(explain_option(alloc))
-}
-
-/// Returns the option that only this program has.
-fn own_option<'a>(alloc: Global, program: Program, forms: &'a [&'a str]) -> Arg<'a>
-    ensures rule { rule_of result ≡ own_rule program forms.entry }
-    ensures local { result.global ≡ false }
-{
-    match program {
-        Program::Plan => graph_option(alloc, forms),
-        Program::Apply => progress_option(alloc),
-    }
+        .arg(explain_option(alloc))?
+        .arg(flag_option(
+            alloc,
+            "diff",
+            "Prints the plan with the old values next to the new ones",
+        ))
 }
 
 fn graph_option<'a>(alloc: Global, forms: &'a [&'a str]) -> Arg<'a>
@@ -190,8 +224,13 @@ fn options_in(alloc: Global, matches: &ArgMatches<'_>) -> Result<Options, AllocE
         parallelism: workers_in(matches),
         stop_after: stop_in(matches),
         graph: graph_in(matches),
+        json: flag_in(matches, "json"),
+        detailed_exitcode: flag_in(matches, "detailed-exitcode"),
         progress: flag_in(matches, "progress"),
+        auto_approve: flag_in(matches, "auto-approve"),
+        stop_file: value_of(alloc, matches, "stop-file")?,
         explain: flag_in(matches, "explain"),
+        diff: flag_in(matches, "diff"),
     })
 }
 

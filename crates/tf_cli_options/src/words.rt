@@ -9,10 +9,15 @@
 //! | `--parallelism N` | how many workers, 1 to 64 | 10 |
 //! | `--stop-after N` | after how many calls to stop, 0 to 2,000 | doesn't stop |
 //! | `--explain` | show where an error is and what is wrong, even if standard error is not a terminal | only at a terminal |
+//! | `--diff` | print the plan with the old values next to the new ones | only the new ones |
 //! | `--graph dot` | `plan` only: print the order for Graphviz, in place of the plan's text | the text |
+//! | `--json` | `plan` only: print the plan as JSON, in the form of Terraform's plan representation | the text |
+//! | `--detailed-exitcode` | `plan` only: exit with 2 if the plan has changes | 0 |
 //! | `--progress` | `apply` only: print progress even if standard error is not a terminal | only at a terminal |
+//! | `--auto-approve` | `apply` only: don't ask for approval of the plan at a terminal | asks at a terminal |
+//! | `--stop-file FILE` | `apply` only: begin no further call once this file exists | doesn't stop |
 
-/// A program of the engine. Each has an option of its own in addition to the shared ones.
+/// A program of the engine. Each has options of its own in addition to the shared ones.
 #[derive(Clone, Copy, Debug, PartialEq, Eq)]
 pub enum Program {
     /// Prints a plan.
@@ -45,8 +50,18 @@ pub struct Options {
     pub stop_after: Option<usize>,
     /// In which language to print the order of the plan in place of its text, if requested. Only `plan` has it.
     pub graph: Option<GraphForm>,
+    /// Whether to print the plan as JSON in place of its text. Only `plan` has it.
+    pub json: bool,
+    /// Whether to exit with 2 if the plan has changes. Only `plan` has it.
+    pub detailed_exitcode: bool,
     /// Whether to print progress even if standard error is not a terminal. Only `apply` has it.
     pub progress: bool,
+    /// Whether to carry out a plan at a terminal without asking for approval. Only `apply` has it.
+    pub auto_approve: bool,
+    /// The file that stops an apply: once it exists, no further call begins. Only `apply` has it.
+    pub stop_file: Option<String>,
     /// Whether to explain refusals and diagnostics even if standard error is not a terminal.
     pub explain: bool,
+    /// Whether to print the plan with the old values next to the new ones.
+    pub diff: bool,
 }

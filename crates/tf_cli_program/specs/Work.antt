@@ -1,5 +1,6 @@
 -- What the programs do with the files that they were given.
-use Rattle.std.specs.Prelude.{◌≡◌, ◌⊎◌, true, false, IfOk, ℕ, List, Option, Some, None, Result, Ok, Err, option_map, string_bytes}
+use Rattle.std.specs.Prelude.{◌≡◌, ◌⊎◌, ◌&&◌, if◌then◌else◌, ◌==◌, not, true, false, IfOk, MatchOption, ℕ, List, length, Option, Some, None, Result, Ok, Err, OnOk, option_map, string_bytes}
+use Rattle.std.specs.Io.KnownBytes.{Appends}
 use Rattle.std.specs.Process.{exit_status}
 use Rattle.std.specs.declared.alloc.Global.{Global}
 use Rattle.std.specs.declared.process.ExitCode.{ExitCode}
@@ -9,7 +10,8 @@ use Rattle.tf_plan_planner.specs.Refused.{Tells}
 use Rattle.tf_plan_planner.specs.declared.refused.Refused.{Refused}
 use Rattle.tf_provider_protocol.specs.Meaning.{Meaning}
 use Rattle.tf_walk.specs.Workers.{are_workers}
-use Rattle.tf_cli.specs.Applies.{IsApplied, IsPlanOf, IsPlanText}
+use Rattle.tf_cli.specs.Applies.{IsApplied, IsPlanOf, IsPlanText, text_in}
+use Rattle.tf_cli_options.specs.declared.words.Options.{Options}
 use Rattle.tf_cli_text.specs.Shown.{to_write}
 use Rattle.tf_provider_log.specs.Header.{HeaderView}
 use Rattle.tf_plan_text.specs.Dot.{IsDrawn}
@@ -19,7 +21,7 @@ use Rattle.tf_cli_files.specs.declared.log_file.Settled.{Settled}
 use Rattle.tf_cli_files.specs.declared.log_file.Settled.TheVariants.{NoCalls, Replaced, UpToDate}
 use Rattle.tf_cli.specs.Refusals.{AreApplyRefusals, AreRefusals}
 use Rattle.tf_cli_lines.specs.Saved.{AppendsStart}
-use Rattle.tf_cli_text.specs.Shown.{errors_of, output_of, refused_errors, status_of}
+use Rattle.tf_cli_text.specs.Shown.{applied_errors, applied_output, refused_errors, status_of}
 use Rattle.tf_cli_text.specs.declared.applied.Applied.{Applied}
 use Rattle.tf_cli_files.specs.declared.given.ProgramInput.{ProgramInput}
 
@@ -36,33 +38,36 @@ header_given given = record {
   lineage = string_bytes given.options.lineage;
 }
 
--- an answer as plain data
-abbrev pub answer_of : Result (String Global) Refused → Result (List ℕ) Refused
-answer_of (Ok text) = Ok (string_bytes text)
-answer_of (Err refused) = Err refused
+-- the text of a plan in the form that the options ask for
+abbrev pub PrintsAs : Options → PlanView → List ℕ → Type 0
+PrintsAs options plan text = MatchOption options.graph (text ≡ text_in plan) (λ form. IsDrawn plan text)
 
--- the answer of a plan of what was given: its text, or what is refused
-abbrev pub IsPlanAnswer : List Meaning → ProgramInput → Result (List ℕ) Refused → Type 0
-IsPlanAnswer ms given (Ok text) = IsPlanText ms (texts_of given) text
+-- 2 if the plan has actions and the options ask for a status that says so, else 0
+abbrev pub plan_status : Options → PlanView → ℕ
+plan_status options plan = if options.detailed_exitcode && not (length plan.actions == 0) then 2 else 0
+
+-- what `plan` prints, and its status
+pub record IsPlanPrint (ms : List Meaning) (given : ProgramInput) (text : List ℕ) (status : ℕ) : Type 0 where
+  pub plan : PlanView
+  pub planned : IsPlanOf ms (texts_of given) (string_bytes given.options.lineage) plan
+  pub prints : PrintsAs given.options plan text
+  pub ends : status ≡ plan_status given.options plan
+
+-- an answer as plain data
+abbrev pub plain_answer : Result (String Global × ℕ) Refused → Result (List ℕ × ℕ) Refused
+plain_answer (Ok (text, status)) = Ok (string_bytes text, status)
+plain_answer (Err refused) = Err refused
+
+-- the answer of a plan of what was given: its text and status, or what is refused
+abbrev pub IsPlanAnswer : List Meaning → ProgramInput → Result (List ℕ × ℕ) Refused → Type 0
+IsPlanAnswer ms given (Ok printed) = IsPlanPrint ms given printed.0 printed.1
 IsPlanAnswer ms given (Err refused) = Tells (AreRefusals ms (texts_of given)) refused
 
--- the text that draws the plan of such texts
-pub record IsGraphText (ms : List Meaning) (texts : Texts) (text : List ℕ) : Type 0 where
-  pub lineage : List ℕ
-  pub plan : PlanView
-  pub planned : IsPlanOf ms texts lineage plan
-  pub drawn : IsDrawn plan text
-
--- the answer where the plan of what was given is to be drawn: the text that draws it, or what is refused
-abbrev pub IsGraphAnswer : List Meaning → ProgramInput → Result (List ℕ) Refused → Type 0
-IsGraphAnswer ms given (Ok text) = IsGraphText ms (texts_of given) text
-IsGraphAnswer ms given (Err refused) = Tells (AreRefusals ms (texts_of given)) refused
-
--- The text, or a beginning of it if a write failed, is on standard output, with status 0; or the refusals, or a beginning of them,
--- are on standard error, with status 1. Nothing else is written to either.
-abbrev pub EndsPlan : Result (List ℕ) Refused → (result : ℕ) (out out_after err err_after : Option (List ℕ)) → Type 0
-EndsPlan (Ok text) result out out_after err err_after =
-    (result ≡ 0) × (err_after ≡ err) × AppendsStart out out_after text
+-- The text, or a beginning of it if a write failed, is on standard output, with its status; or the refusals, or a beginning of
+-- them, are on standard error, with status 1. Nothing else is written to either.
+abbrev pub EndsPlan : Result (List ℕ × ℕ) Refused → (result : ℕ) (out out_after err err_after : Option (List ℕ)) → Type 0
+EndsPlan (Ok printed) result out out_after err err_after =
+    (result ≡ printed.1) × (err_after ≡ err) × AppendsStart out out_after printed.0
 EndsPlan (Err refused) result out out_after err err_after =
     (result ≡ 1) × (out_after ≡ out) × AppendsStart err err_after (refused_errors refused)
 
@@ -73,19 +78,30 @@ IsAnswer ms given (Ok applied) =
 IsAnswer ms given (Err refused) =
     Tells (AreApplyRefusals ms (texts_of given) (string_bytes given.options.lineage) given.options.parallelism) refused
 
--- what is printed of an answer, or a beginning of it, and nothing else
-abbrev pub IsShown : Result Applied Refused → (out out_after err err_after : Option (List ℕ)) → Type 0
-IsShown answer out out_after err err_after = AppendsStart out out_after (output_of answer) × AppendsStart err err_after (errors_of answer)
+-- How much of the plan's text is printed: nothing, all, or a beginning if a write failed.
+abbrev pub IsPrinted : {F : Type 0} → Option (Result (Unit {0}) F) → List ℕ → (out out_after : Option (List ℕ)) → Type 0
+IsPrinted None text out out_after = out_after ≡ out
+IsPrinted (Some printed) text out out_after = OnOk printed (Appends out out_after text) × AppendsStart out out_after text
+
+-- at most the text of the plan is on standard output
+abbrev pub IsPlanAtMost : List Meaning → ProgramInput → (out out_after : Option (List ℕ)) → Type 0
+IsPlanAtMost ms given out out_after =
+    (out_after ≡ out) ⊎ ((text : List ℕ) × IsPlanText ms (texts_of given) text × AppendsStart out out_after text)
+
+-- What is printed of an answer, or a beginning of it, and nothing else. An apply may be refused after its plan was printed.
+abbrev pub IsShown : List Meaning → ProgramInput → Result Applied Refused → (out out_after err err_after : Option (List ℕ)) → Type 0
+IsShown ms given (Ok a) out out_after err err_after = AppendsStart out out_after (applied_output a) × AppendsStart err err_after (applied_errors a)
+IsShown ms given (Err refused) out out_after err err_after = IsPlanAtMost ms given out out_after × AppendsStart err err_after (refused_errors refused)
 
 -- The answer is printed, and then the state is written, if there is one to write.
-abbrev pub EndsWith : Option (List ℕ) → Result Applied Refused → (result : ℕ) (out out_after err err_after : Option (List ℕ)) → Type 0
-EndsWith None answer result out out_after err err_after = (result ≡ status_of answer) × IsShown answer out out_after err err_after
-EndsWith (Some text) answer result out out_after err err_after =
-    (out_shown : Option (List ℕ)) × (err_shown : Option (List ℕ)) × IsShown answer out out_shown err err_shown
+abbrev pub EndsWith : List Meaning → ProgramInput → Option (List ℕ) → Result Applied Refused → (result : ℕ) (out out_after err err_after : Option (List ℕ)) → Type 0
+EndsWith ms given None answer result out out_after err err_after = (result ≡ status_of answer) × IsShown ms given answer out out_after err err_after
+EndsWith ms given (Some text) answer result out out_after err err_after =
+    (out_shown : Option (List ℕ)) × (err_shown : Option (List ℕ)) × IsShown ms given answer out out_shown err err_shown
     × EndsKept (status_of answer) result text out_shown out_after err_shown err_after
 
-abbrev pub EndsApply : Result Applied Refused → (result : ℕ) (out out_after err err_after : Option (List ℕ)) → Type 0
-EndsApply answer result out out_after err err_after = EndsWith (to_write answer) answer result out out_after err err_after
+abbrev pub EndsApply : List Meaning → ProgramInput → Result Applied Refused → (result : ℕ) (out out_after err err_after : Option (List ℕ)) → Type 0
+EndsApply ms given answer result out out_after err err_after = EndsWith ms given (to_write answer) answer result out out_after err err_after
 
 -- Why the log of an apply isn't needed any more: the state file was replaced by the text to write, or the state hasn't changed. It is
 -- still needed only if the state isn't written, which is status 3.
@@ -95,9 +111,9 @@ IsSettled answer status (Some (Replaced in_place)) = to_write answer ≡ Some (t
 IsSettled answer status (Some UpToDate) = IfOk answer (λ a. a.changed ≡ false)
 IsSettled answer status (Some NoCalls) = ⊥
 
--- An apply with a log ends before any call, with status 1 and nothing on standard output; or it ends as an apply without one does,
--- and may print more on standard error.
+-- An apply with a log ends before any call, with status 1 and at most the plan on standard output; or it ends as an apply without
+-- one does, and may print more on standard error.
 abbrev pub EndsLogged : List Meaning → ProgramInput → (result : ExitCode) (out out_after err : Option (List ℕ)) → Type 0
 EndsLogged ms given result out out_after err =
-    ((exit_status result ≡ 1) × (out_after ≡ out))
-    ⊎ ((answer : Result Applied Refused) × (status : ℕ) × (err_shown : Option (List ℕ)) × IsAnswer ms given answer × EndsApply answer status out out_after err err_shown × (exit_status result ≡ status))
+    ((exit_status result ≡ 1) × IsPlanAtMost ms given out out_after)
+    ⊎ ((answer : Result Applied Refused) × (status : ℕ) × (err_shown : Option (List ℕ)) × IsAnswer ms given answer × EndsApply ms given answer status out out_after err err_shown × (exit_status result ≡ status))

@@ -4,15 +4,19 @@
 //! answer from the log, so nothing is called.
 #![tactic(auto)]
 
-mod drawing;
+mod applying;
+mod approval;
 mod laws;
 mod logging;
+mod planning;
 mod recovering;
 mod recovery_status;
 mod taking;
 mod work;
 
+pub use applying::{carry_out, carry_out_logged};
+pub use approval::{Approval, Unasked};
 pub use laws::{what_a_cut_log_leaves_is_recovered, what_is_recovered_is_applied};
-pub use logging::{carry_out_logged, finish_recovery, preview_recovery};
+pub use logging::{finish_recovery, preview_recovery};
 pub use taking::Recovered;
-pub use work::{carry_out, print_graph, print_plan};
+pub use work::print_plan;

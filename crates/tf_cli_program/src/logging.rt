@@ -1,25 +1,21 @@
-//! An apply with a log, and the recovery before it.
+//! The log of an apply: the recovery before it, its first line, and its end.
 
 ghost use Rattle.std.specs.Process.{exit_status};
 ghost use Rattle.std.specs.Prelude.{◌≡◌, ◌≤◌, ◌⊎◌, IfErr, IfOk, IfSome, OnOk, map, option_map, string_bytes};
 ghost use Rattle.tf_cli_files.specs.Kept.{replaced_text};
 ghost use Rattle.tf_cli_files.specs.Program.{IsFailure};
-ghost use Rattle.tf_cli_program.specs.Work.{EndsLogged, header_given};
+ghost use Rattle.tf_cli_program.specs.Work.{header_given};
 ghost use Rattle.tf_cli_program.specs.Recovery.{ContinuesFrom, IsInspected, IsReplaced};
 
 use crate::recovery_status::{RecoveryStatus, recovery_status};
-use crate::work::carry_out;
 use std::alloc::{AllocError, Global};
 use std::fs::OpenFile;
 use std::io::Write;
 use std::process::ExitCode;
 use std::rt::Files;
-use std::sync::Wait;
-use std::thread::Threads;
-use tf_cli::Stop;
 use tf_cli_files::{
     LogFile, NotInPlace, Past, Place, ProgramInput, Settled, UNWRITTEN, empty, keep_state,
-    sync_folder, tell_lost, tell_no_log, tell_no_memory,
+    sync_folder, tell_no_log, tell_no_memory,
 };
 use tf_provider::Provider;
 use tf_provider_log::{Header, NotStarted, OpenLog, Sink};
@@ -125,7 +121,7 @@ fn take_state(given: &mut ProgramInput, settled: Settled)
 }
 
 /// Empties the log, which isn't needed any more.
-fn empty_log<F: LogFile, E: Write>(
+pub(crate) fn empty_log<F: LogFile, E: Write>(
     file: &F,
     why: &Settled,
     place: &Place,
@@ -139,46 +135,8 @@ fn empty_log<F: LogFile, E: Write>(
     }
 }
 
-/// Carries out the plan of what `apply` was given with providers that log their calls, prints the result, writes the state if it
-/// changed, and returns the status. Before any call, the log has what was given. Afterwards it is empty, unless the state
-/// couldn't be written.
-pub fn carry_out_logged<
-    R: Files + AllocGlobal,
-    T: Threads + Wait + Sync,
-    S: Sink,
-    O: Write,
-    E: Write,
->(
-    rt: &R,
-    threads: &T,
-    place: &Place,
-    file: &R::File,
-    log: &OpenLog<S>,
-    given: &ProgramInput,
-    providers: &[Box<dyn Provider + Sync>],
-    stop: &Stop,
-    out: &mut O,
-    err: &mut E,
-) -> ExitCode
-where
-    R::File: LogFile,
-    ensures { EndsLogged (map meaning providers.now) given.now result (O.contents out.old) (O.contents out.new) (E.contents err.old) }
-{
-    if let Err(status) = start(rt, place, log, given, err) {
-        return status;
-    }
-    let (status, settled) = carry_out(rt, threads, place, log, given, providers, stop, out, err);
-    if log.is_lost() {
-        tell_lost(place.log.as_str(), err);
-    }
-    if let Some(why) = settled {
-        let _ = empty_log(file, &why, place, err);
-    }
-    ExitCode::from(status)
-}
-
 /// Starts the log with what was given. Texts that aren't UTF-8 are refused before any call, so they aren't logged.
-fn start<R: Files + AllocGlobal, S: Sink, E: Write>(
+pub(crate) fn start<R: Files + AllocGlobal, S: Sink, E: Write>(
     rt: &R,
     place: &Place,
     log: &OpenLog<S>,

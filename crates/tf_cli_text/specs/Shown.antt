@@ -98,6 +98,11 @@ abbrev pub output_of : Result Applied Refused → List ℕ
 output_of (Ok a) = applied_output a
 output_of (Err refused) = []
 
+-- on standard output after the plan
+abbrev pub summary_of : Result Applied Refused → List ℕ
+summary_of (Ok a) = report_summary (report_of a.walked)
+summary_of (Err refused) = []
+
 abbrev pub errors_of : Result Applied Refused → List ℕ
 errors_of (Ok a) = applied_errors a
 errors_of (Err refused) = refused_errors refused

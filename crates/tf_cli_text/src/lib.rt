@@ -5,4 +5,4 @@ mod applied;
 mod printing;
 
 pub use applied::{Applied, state_to_write};
-pub use printing::{print, print_refused, show};
+pub use printing::{print, print_refused, show, show_rest};

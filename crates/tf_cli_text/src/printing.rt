@@ -4,8 +4,9 @@ ghost use Rattle.std.specs.Io.KnownBytes.{Appends};
 ghost use Rattle.std.specs.List.{list_all};
 ghost use Rattle.std.specs.Prelude.{◌≡◌, IsErr, MatchResult, OnOk};
 ghost use Rattle.tf_cli_lines.specs.Saved.{AppendsStart};
-ghost use Rattle.tf_cli_text.specs.Shown.{all_good, applied_errors, applied_output, applied_status, cant_write, counts, diagnostic_line, diagnostic_lines, error_line, errors_of, is_good_outcome, is_torn, output_of, refused_errors, report_summary, status_of, summary_opening, torn_warning, unwritten_error, warnings};
+ghost use Rattle.tf_cli_text.specs.Shown.{all_good, applied_errors, applied_output, applied_status, cant_write, counts, diagnostic_line, diagnostic_lines, error_line, errors_of, is_good_outcome, is_torn, output_of, refused_errors, report_summary, status_of, summary_of, summary_opening, torn_warning, unwritten_error, warnings};
 ghost use Rattle.tf_walk_report.specs.Diagnostics.{diagnostic_of};
+ghost use Rattle.tf_walk_report.specs.Report.{report_of};
 
 use crate::applied::Applied;
 use itoa::Buffer;
@@ -30,6 +31,40 @@ pub fn show<O: Write, E: Write>(answer: &Result<Applied, Refused>, out: &mut O, 
 {
     let _ = print(answer, out, err);
     status(answer)
+}
+
+/// Prints what [`show`] prints after the plan's text, and returns the same status. `planned` is what printing that text
+/// returned: if it failed, writes nothing more to standard output.
+#[tactic(auto, using(tf_cli_lines::proofs::Writes::appends_none))]
+pub fn show_rest<O: Write, E: Write>(
+    planned: Result<(), SaveFault>,
+    answer: &Result<Applied, Refused>,
+    out: &mut O,
+    err: &mut E,
+) -> u8
+    ensures status { result ≡ status_of answer.now }
+    ensures output { MatchResult planned (λ _. AppendsStart (O.contents out.old) (O.contents out.new) (summary_of answer.now)) (λ _. O.contents out.new ≡ O.contents out.old) }
+    ensures errors { AppendsStart (E.contents err.old) (E.contents err.new) (errors_of answer.now) }
+{
+    let _ = print_rest(planned, answer, out, err);
+    status(answer)
+}
+
+/// Prints what comes after the plan's text.
+#[tactic(auto, using(tf_cli_lines::proofs::Writes::appends_none))]
+fn print_rest<O: Write, E: Write>(
+    planned: Printed,
+    answer: &Result<Applied, Refused>,
+    out: &mut O,
+    err: &mut E,
+) -> Printed
+    ensures output { MatchResult planned (λ _. AppendsStart (O.contents out.old) (O.contents out.new) (summary_of answer.now)) (λ _. O.contents out.new ≡ O.contents out.old) }
+    ensures errors { AppendsStart (E.contents err.old) (E.contents err.new) (errors_of answer.now) }
+{
+    match answer {
+        Ok(applied) => print_report(planned, applied, out, err),
+        Err(refused) => print_refused(refused, err),
+    }
 }
 
 /// Prints all that `apply` prints before it writes the state file. If a write to a writer fails, writes nothing more
@@ -78,8 +113,23 @@ fn print_applied<O: Write, E: Write>(applied: &Applied, out: &mut O, err: &mut E
     ensures output_part { AppendsStart (O.contents out.old) (O.contents out.new) (applied_output applied.now) }
     ensures errors_part { AppendsStart (E.contents err.old) (E.contents err.new) (applied_errors applied.now) }
 {
-    let report = applied.walked.report();
     let planned = save(out, applied.plan.as_str());
+    print_report(planned, applied, out, err)
+}
+
+/// Prints what comes after the plan's text: the summary, if that text was printed, and the diagnostics and warnings.
+fn print_report<O: Write, E: Write>(
+    planned: Printed,
+    applied: &Applied,
+    out: &mut O,
+    err: &mut E,
+) -> Printed
+    ensures output { MatchResult planned (λ _. OnOk result (Appends (O.contents out.old) (O.contents out.new) (report_summary (report_of applied.now.walked)))) (λ _. IsErr result) }
+    ensures errors { OnOk result (Appends (E.contents err.old) (E.contents err.new) (applied_errors applied.now)) }
+    ensures output_part { MatchResult planned (λ _. AppendsStart (O.contents out.old) (O.contents out.new) (report_summary (report_of applied.now.walked))) (λ _. O.contents out.new ≡ O.contents out.old) }
+    ensures errors_part { AppendsStart (E.contents err.old) (E.contents err.new) (applied_errors applied.now) }
+{
+    let report = applied.walked.report();
     let told = print_diagnostics(&report.diagnostics, err);
     let summed = print_summary(planned, report, out);
     let warned = print_warnings(told, applied, err);

@@ -1,14 +1,16 @@
 //! The work of `apply`.
 
+use crate::approving::AtTerminal;
 use crate::explaining::{explains, sources};
 use crate::recovering::recover;
+use std::alloc::AllocError;
 use std::fs::File;
 use std::io;
 use std::io::{IsTerminal, Stderr, Write};
 use std::process::ExitCode;
 use std::sync::{Arc, Wait};
 use std::thread::Threads;
-use tf_cli_files::{CallControl, Place, ProgramInput, Seen, hold};
+use tf_cli_files::{CallControl, Place, ProgramInput, Seen, StopFile, hold};
 use tf_cli_options::Options;
 use tf_cli_program::carry_out_logged;
 use tf_explain::Explained;
@@ -57,7 +59,9 @@ fn apply_by<T: Threads + Wait + Sync, O: Write, E: Write>(
     err: &mut E,
 ) -> io::Result<ExitCode> {
     let alloc = rt.alloc();
-    let control = CallControl::new(alloc, Arc::try_clone(file)?, given.options.stop_after)?;
+    let stop_file = stop_file(rt, given)?;
+    let stop_after = given.options.stop_after;
+    let control = CallControl::new(alloc, Arc::try_clone(file)?, stop_after, stop_file)?;
     let sim = control.wrap(alloc, Sim::new(alloc)?)?;
     let reserved = place.own_files(alloc, &given.options)?;
     let local_file = control.wrap(alloc, LocalFile::with_reserved(alloc, *rt, reserved)?)?;
@@ -67,6 +71,17 @@ fn apply_by<T: Threads + Wait + Sync, O: Write, E: Write>(
     Ok(carry_out_by(
         rt, threads, place, file, &control, given, &providers, out, err,
     ))
+}
+
+/// Returns the file that stops the apply, if the options name one.
+fn stop_file(rt: &HostRuntime, given: &ProgramInput) -> Result<Option<StopFile>, AllocError> {
+    match &given.options.stop_file {
+        Some(name) => {
+            let name = String::from_str(rt.alloc(), name.as_str())?;
+            Ok(Some(StopFile::new(*rt, name)))
+        }
+        None => Ok(None),
+    }
 }
 
 /// Carries out the plan with these providers, prints the result and writes the state. Errors are explained if that is asked for.
@@ -92,6 +107,7 @@ fn carry_out_by<T: Threads + Wait + Sync, O: Write, E: Write>(
         given,
         providers,
         control.stop(),
+        &AtTerminal::new(rt, given),
         out,
         &mut err,
     )

@@ -3,6 +3,7 @@
 #![tactic(auto)]
 
 mod applying;
+mod approving;
 mod explaining;
 mod own;
 mod planning;

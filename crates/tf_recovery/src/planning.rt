@@ -6,8 +6,8 @@ use std::io;
 use std::io::Write;
 use std::process::ExitCode;
 use tf_cli_files::{Place, ProgramInput, Seen, see};
-use tf_cli_options::{GraphForm, Options};
-use tf_cli_program::{print_graph, print_plan};
+use tf_cli_options::Options;
+use tf_cli_program::print_plan;
 use tf_explain::Explained;
 use tf_provider::Provider;
 use tf_provider_local::LocalFile;
@@ -39,7 +39,7 @@ pub fn plan<O: Write, E: Write>(
     print_given(rt, &place, &given, out, err)
 }
 
-/// Prints the plan's text, or its drawing if the options ask for that.
+/// Prints the plan in the form that the options ask for.
 fn print_given<O: Write, E: Write>(
     rt: &HostRuntime,
     place: &Place,
@@ -52,9 +52,6 @@ fn print_given<O: Write, E: Write>(
     providers.push(Box::new(rt.alloc(), LocalFile::new(rt.alloc(), *rt)?)?)?;
     let files = sources(given, place, providers.as_slice());
     let mut err = Explained::new(rt.alloc(), err, explains(rt, given), files);
-    let status = match given.options.graph {
-        Some(GraphForm::Dot) => print_graph(rt.alloc(), given, &providers, out, &mut err),
-        None => print_plan(rt.alloc(), given, &providers, out, &mut err),
-    };
+    let status = print_plan(rt.alloc(), given, &providers, out, &mut err);
     Ok(ExitCode::from(status))
 }

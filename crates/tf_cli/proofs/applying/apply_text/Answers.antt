@@ -5,8 +5,8 @@ use Rattle.tf_cli.proofs.applying.apply_text.Goals as goal
 
 pub returns-in-Ok-clause-applied : goal.returns-in-Ok-clause-applied
 returns-in-Ok-clause-applied g c =
-    applied_then _ _ c.args.lineage.now (plan_of c.in-Ok.planned) c.in-Ok.ensures.planned c.carry_out.result c.carry_out.ensures.carried_out
+    applied_then _ _ c.args.lineage.now (plan_of c.in-Ok.planned) c.in-Ok.ensures.planned c.apply_plan.result c.apply_plan.ensures.carried_out
 
 pub returns-in-Ok-clause-refused : goal.returns-in-Ok-clause-refused
 returns-in-Ok-clause-refused g c =
-    refused_then _ _ c.args.lineage.now c.args.workers (plan_of c.in-Ok.planned) c.in-Ok.ensures.planned c.carry_out.result c.carry_out.ensures.refused
+    refused_then _ _ c.args.lineage.now c.args.workers (plan_of c.in-Ok.planned) c.in-Ok.ensures.planned c.apply_plan.result c.apply_plan.ensures.refused

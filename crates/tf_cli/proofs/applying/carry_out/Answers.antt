@@ -9,7 +9,7 @@ use Rattle.tf_cli.proofs.applying.carry_out.Goals as goal
 
 pub returns-in-Ok-clause-carried_out : goal.returns-in-Ok-clause-carried_out
 returns-in-Ok-clause-carried_out g c =
-    is_carried_out _ (plan_of c.args.planned.now) c.in-Ok.walked _ c.requires.starts (ap string_bytes c.answer_of.ensures.plan ∙ c.in_ok-text.ensures.shown)
+    is_carried_out _ (plan_of c.args.planned.now) c.in-Ok.walked _ c.requires.starts (ap string_bytes c.answer_of.ensures.plan ∙ c.requires.shown)
     c.in-Ok.ensures.walked c.answer_of.ensures.walked c.answer_of.ensures.text
     (c.answer_of.ensures.changed
     ∙ ap (λ (n : ℕ). not ((state_of (report_of c.in-Ok.walked).state).serial == n)) (c.serial.ensures ∙ ap (λ (p : Plan). (state_of p.prior).serial) c.planned.view_is))

@@ -7,13 +7,14 @@ use Rattle.tf_cli_options.proofs.reading.shared_command.Goals as goal
 
 pub returns : goal.returns
 unfolding shared_app
-returns c = IfOk-weaker c.arg-7.result _ _
-    (λ r adds. adds.shape c.explain_option.ensures.local
+returns c = IfOk-weaker c.arg-8.result _ _
+    (λ r adds. adds.shape c.flag_option.ensures.local
+    ∙ ap₂ with_rule (c.in_ok-arg-7.ensures.shape c.explain_option.ensures.local
     ∙ ap₂ with_rule (c.in_ok-arg-6.ensures.shape c.stop_option.ensures.local
     ∙ ap₂ with_rule (c.in_ok-arg-5.ensures.shape c.workers_option.ensures.local
     ∙ ap₂ with_rule (c.in_ok-arg-4.ensures.shape c.default_option-3.ensures.local
     ∙ ap₂ with_rule (c.in_ok-arg-3.ensures.shape c.default_option-2.ensures.local
     ∙ ap₂ with_rule (c.in_ok-arg-2.ensures.shape c.option.ensures.local
     ∙ ap₂ with_rule (c.in_ok-arg.ensures.shape c.default_option.ensures.local
-    ∙ ap₂ with_rule c.new.ensures.app c.default_option.ensures.rule) c.option.ensures.rule) c.default_option-2.ensures.rule) c.default_option-3.ensures.rule) c.workers_option.ensures.rule) c.stop_option.ensures.rule) c.explain_option.ensures.rule)
-    c.arg-7.ensures
+    ∙ ap₂ with_rule c.new.ensures.app c.default_option.ensures.rule) c.option.ensures.rule) c.default_option-2.ensures.rule) c.default_option-3.ensures.rule) c.workers_option.ensures.rule) c.stop_option.ensures.rule) c.explain_option.ensures.rule) c.flag_option.ensures.rule)
+    c.arg-8.ensures

@@ -1,0 +1,13 @@
+-- Each option that is added adds its rule to what both programs have.
+use Rattle.std.proofs.Common.{◌∙◌, ap₂}
+use Rattle.std.proofs.lemmas.Result.{IfOk-weaker}
+use Rattle.clap.specs.Words.{with_rule}
+use Rattle.tf_cli_options.proofs.reading.apply_command.Goals as goal
+
+pub returns : goal.returns
+returns c = IfOk-weaker c.arg-3.result _ _
+    (λ r adds. adds.shape c.option.ensures.local
+    ∙ ap₂ with_rule (c.in_ok-arg-2.ensures.shape c.flag_option.ensures.local
+    ∙ ap₂ with_rule (c.in_ok-arg.ensures.shape c.progress_option.ensures.local
+    ∙ ap₂ with_rule c.in_ok-shared_command.ensures c.progress_option.ensures.rule) c.flag_option.ensures.rule) c.option.ensures.rule)
+    c.arg-3.ensures

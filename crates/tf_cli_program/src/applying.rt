@@ -1,0 +1,220 @@
+//! What the program `apply` does with the files that it was given.
+
+ghost use Rattle.std.specs.Prelude.{◌≡◌, ℕ, List, Option, Some, map, string_bytes};
+ghost use Rattle.std.specs.Process.{exit_status};
+ghost use Rattle.tf_cli.specs.Applies.{IsPlanOf, MayStart, text_in};
+ghost use Rattle.tf_cli_lines.specs.Saved.{AppendsStart};
+ghost use Rattle.tf_cli_program.specs.Work.{EndsApply, EndsLogged, IsAnswer, IsPrinted, IsSettled, texts_of};
+ghost use Rattle.tf_cli_text.specs.Shown.{refused_errors};
+ghost use Rattle.tf_walk_action.specs.Words.{plan_of};
+
+use crate::approval::Approval;
+use crate::logging::{empty_log, start};
+use crate::planning::plan_given;
+use std::io::Write;
+use std::process::ExitCode;
+use std::rt::Files;
+use std::sync::Wait;
+use std::thread::Threads;
+use tf_cli::{
+    InputTexts, Refused, SaveFault, Stop, carry_out as carry_out_plan, plan_of_texts,
+    print_refused, save, show_rest, state_to_write, text_of,
+};
+use tf_cli_files::{
+    LogFile, NotInPlace, Place, ProgramInput, Settled, UNWRITTEN, keep_state, tell_lost,
+};
+use tf_plan_data::Planned;
+use tf_provider::Provider;
+use tf_provider_log::{OpenLog, Sink};
+
+/// Whether printing succeeded.
+type Printed = Result<(), SaveFault>;
+
+/// Plans what `apply` was given, prints the plan, asks for approval if `approval` says so and the plan has actions, carries the plan
+/// out with providers that log their calls, prints the rest of the result, writes the state if it changed, and returns the status.
+/// Before any call, the log has what was given. Afterwards it is empty, unless the state couldn't be written. If the user
+/// doesn't approve, nothing is called or written, and the status is 1.
+pub fn carry_out_logged<
+    R: Files + AllocGlobal,
+    T: Threads + Wait + Sync,
+    S: Sink,
+    A: Approval,
+    O: Write,
+    E: Write,
+>(
+    rt: &R,
+    threads: &T,
+    place: &Place,
+    file: &R::File,
+    log: &OpenLog<S>,
+    given: &ProgramInput,
+    providers: &[Box<dyn Provider + Sync>],
+    stop: &Stop,
+    approval: &A,
+    out: &mut O,
+    err: &mut E,
+) -> ExitCode
+where
+    R::File: LogFile,
+    ensures { EndsLogged (map meaning providers.now) given.now result (O.contents out.old) (O.contents out.new) (E.contents err.old) }
+{
+    match plan_given(rt.alloc(), given, providers) {
+        Ok(planned) => approve_and_run(
+            rt, threads, place, file, log, given, &planned, providers, stop, approval, out, err,
+        ),
+        Err(refused) => refuse(&refused, err),
+    }
+}
+
+/// Prints refusals, and returns the status.
+fn refuse<E: Write>(refused: &Refused, err: &mut E) -> ExitCode
+    ensures status { exit_status result ≡ 1 }
+    ensures errors { AppendsStart (E.contents err.old) (E.contents err.new) (refused_errors refused.now) }
+{
+    let _ = print_refused(refused, err);
+    ExitCode::FAILURE
+}
+
+/// Makes the plan's text; if the user is to approve the plan, prints that text and asks; then carries the plan out.
+fn approve_and_run<
+    R: Files + AllocGlobal,
+    T: Threads + Wait + Sync,
+    S: Sink,
+    A: Approval,
+    O: Write,
+    E: Write,
+>(
+    rt: &R,
+    threads: &T,
+    place: &Place,
+    file: &R::File,
+    log: &OpenLog<S>,
+    given: &ProgramInput,
+    planned: &Planned,
+    providers: &[Box<dyn Provider + Sync>],
+    stop: &Stop,
+    approval: &A,
+    out: &mut O,
+    err: &mut E,
+) -> ExitCode
+where
+    R::File: LogFile,
+    requires starts { MayStart (map meaning providers.now) (plan_of planned.now) }
+    requires planned { IsPlanOf (map meaning providers.now) (texts_of given.now) (string_bytes given.now.options.lineage) (plan_of planned.now) }
+    ensures { EndsLogged (map meaning providers.now) given.now result (O.contents out.old) (O.contents out.new) (E.contents err.old) }
+{
+    let text = match text_of(rt.alloc(), planned) {
+        Ok(text) => text,
+        Err(refused) => return refuse(&refused, err),
+    };
+    if planned.plan.actions.is_empty() || !approval.is_asked() {
+        return run_logged(
+            rt, threads, place, file, log, given, planned, text, None, providers, stop, out, err,
+        );
+    }
+    let printed = save(out, text.as_str());
+    if !approval.approves() {
+        return ExitCode::FAILURE;
+    }
+    run_logged(
+        rt,
+        threads,
+        place,
+        file,
+        log,
+        given,
+        planned,
+        text,
+        Some(printed),
+        providers,
+        stop,
+        out,
+        err,
+    )
+}
+
+/// Starts the log, prints the plan's text if it isn't printed yet, carries the plan out, and empties the log.
+fn run_logged<R: Files + AllocGlobal, T: Threads + Wait + Sync, S: Sink, O: Write, E: Write>(
+    rt: &R,
+    threads: &T,
+    place: &Place,
+    file: &R::File,
+    log: &OpenLog<S>,
+    given: &ProgramInput,
+    planned: &Planned,
+    text: String,
+    printed: Option<Printed>,
+    providers: &[Box<dyn Provider + Sync>],
+    stop: &Stop,
+    out: &mut O,
+    err: &mut E,
+) -> ExitCode
+where
+    R::File: LogFile,
+    requires starts { MayStart (map meaning providers.now) (plan_of planned.now) }
+    requires planned { IsPlanOf (map meaning providers.now) (texts_of given.now) (string_bytes given.now.options.lineage) (plan_of planned.now) }
+    requires shown { string_bytes text ≡ text_in (plan_of planned.now) }
+    ensures { (before : Option (List ℕ)) → IsPrinted printed (string_bytes text) before (O.contents out.old) → EndsLogged (map meaning providers.now) given.now result before (O.contents out.new) (E.contents err.old) }
+{
+    if let Err(status) = start(rt, place, log, given, err) {
+        return status;
+    }
+    let printed = print_text(printed, text.as_str(), out);
+    let (status, settled) = carry_out(
+        rt, threads, place, log, given, planned, text, printed, providers, stop, out, err,
+    );
+    if log.is_lost() {
+        tell_lost(place.log.as_str(), err);
+    }
+    if let Some(why) = settled {
+        let _ = empty_log(file, &why, place, err);
+    }
+    ExitCode::from(status)
+}
+
+/// Prints the plan's text, unless it is already printed.
+fn print_text<O: Write>(printed: Option<Printed>, text: &str, out: &mut O) -> Printed
+    ensures { (before : Option (List ℕ)) → IsPrinted printed text.now before (O.contents out.old) → IsPrinted (Some result) text.now before (O.contents out.new) }
+{
+    match printed {
+        Some(printed) => printed,
+        None => save(out, text),
+    }
+}
+
+/// Carries out a plan of what `apply` was given, whose text is printed, with the number of workers that its options name. Prints
+/// the rest of the result, and writes the state if it changed. Returns the status, and why the log isn't needed any more; `None`
+/// if the state isn't written, which is status 3. The log of the calls is synced before the state is written; if it can't be, it
+/// is lost.
+pub fn carry_out<R: Files + AllocGlobal, T: Threads + Wait + Sync, S: Sink, O: Write, E: Write>(
+    rt: &R,
+    threads: &T,
+    place: &Place,
+    log: &OpenLog<S>,
+    given: &ProgramInput,
+    planned: &Planned,
+    text: String,
+    printed: Result<(), SaveFault>,
+    providers: &[Box<dyn Provider + Sync>],
+    stop: &Stop,
+    out: &mut O,
+    err: &mut E,
+) -> (u8, Option<Settled>)
+    requires starts { MayStart (map meaning providers.now) (plan_of planned.now) }
+    requires planned { IsPlanOf (map meaning providers.now) (texts_of given.now) (string_bytes given.now.options.lineage) (plan_of planned.now) }
+    requires shown { string_bytes text ≡ text_in (plan_of planned.now) }
+    ensures { (answer : _) × IsAnswer (map meaning providers.now) given.now answer × IsSettled answer result.0 result.1 × ((before : Option (List ℕ)) → IsPrinted (Some printed) (string_bytes text) before (O.contents out.old) → EndsApply (map meaning providers.now) given.now answer result.0 before (O.contents out.new) (E.contents err.old) (E.contents err.new)) }
+{
+    let workers = given.options.parallelism;
+    let answer = carry_out_plan(threads, rt.alloc(), planned, text, providers, workers, stop);
+    let _ = log.sync();
+    let status = show_rest(printed, &answer, out, err);
+    match state_to_write(answer) {
+        Some(text) => match keep_state(rt, place, text, out, err) {
+            Ok(in_place) => (status, Some(Settled::Replaced(in_place))),
+            Err(NotInPlace) => (UNWRITTEN, None),
+        },
+        None if status == UNWRITTEN => (status, None),
+        None => (status, Some(Settled::UpToDate)),
+    }
+}
