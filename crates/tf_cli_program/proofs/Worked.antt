@@ -10,7 +10,7 @@ use Rattle.tf_plan_planner.specs.declared.refused.Refused.{Refused}
 use Rattle.tf_plan_planner.specs.declared.refused.Refused.TheVariants.{NoMemory, These}
 use Rattle.tf_provider_protocol.specs.Meaning.{Meaning}
 use Rattle.tf_walk.specs.Workers.{are_workers}
-use Rattle.tf_cli.specs.Applies.{IsCarriedOut, IsPlanOf, IsPlanText}
+use Rattle.tf_cli.specs.Applies.{IsCarriedOut, IsPlanOf, IsPlanText, text_in}
 use Rattle.tf_cli_text.specs.Shown.{to_write}
 use Rattle.tf_cli_files.specs.Kept.{EndsKept}
 use Rattle.tf_cli.specs.Refusals.{AreRefusals, IsNumberRefused}
@@ -64,7 +64,7 @@ module _ (ms : List Meaning) (given : ProgramInput) where
 
   -- a refusal that is printed before the plan ends an apply
   pub refused_ends : (refused : Refused) (out err err_after : Option (List ℕ)) → AppendsStart err err_after (refused_errors refused) → EndsApply ms given (Err refused) 1 out out err err_after
-  refused_ends refused out err err_after errors = (refl, inl refl, errors)
+  refused_ends refused out err err_after errors = (refl, (inl refl, errors))
 
   -- what is printed of a plan's text is at most the plan
   pub at_most : {F : Type 0} (printed : Option (Result (Unit {0}) F)) (text : List ℕ) (out now : Option (List ℕ)) → IsPlanText ms (texts_of given) text → IsPrinted printed text out now → IsPlanAtMost ms given out now
@@ -87,6 +87,23 @@ module _ (ms : List Meaning) (given : ProgramInput) where
     inr (text, planned, subst (AppendsStart out out_after) (append-nil text) (both_part printed out now out_after text [] is.0 is.1 rest)),
     errors,
   )
+
+  -- the text that was printed is the plan's
+  same_text : (plan : PlanView) (text : List ℕ) (answer : Result Applied Refused) → text ≡ text_in plan → IfOk answer (IsCarriedOut ms plan) → IfOk answer (λ a. string_bytes a.plan ≡ text)
+  same_text plan text (Ok a) shown carried_out = carried_out.shown ∙ sym shown
+  same_text plan text (Err refused) shown carried_out = tt
+
+  pub plan_shown : (plan : PlanView) (text : List ℕ) → IsPlanOf ms (texts_of given) (string_bytes given.options.lineage) plan → text ≡ text_in plan → IsPlanText ms (texts_of given) text
+  plan_shown plan text planned shown = record { lineage = string_bytes given.options.lineage; plan = plan; planned = planned; shown = shown }
+
+  -- what is printed of the result of carrying out a plan, after its text
+  pub shows : {F : Type 0} (plan : PlanView) (printed : Result (Unit {0}) F) (text : List ℕ) (answer : Result Applied Refused) (now out_after err err_after : Option (List ℕ))
+      → IsPlanOf ms (texts_of given) (string_bytes given.options.lineage) plan → text ≡ text_in plan → IfOk answer (IsCarriedOut ms plan)
+      → MatchResult printed (λ _. AppendsStart now out_after (summary_of answer)) (λ _. out_after ≡ now)
+      → AppendsStart err err_after (errors_of answer)
+      → (out : Option (List ℕ)) → IsPrinted (Some printed) text out now → IsShown ms given answer out out_after err err_after
+  shows plan printed text answer now out_after err err_after planned shown carried_out rest errors out is =
+      shown_after printed text answer out now out_after err err_after (plan_shown plan text planned shown) (same_text plan text answer shown carried_out) is rest errors
 
 module _ (ms : List Meaning) (given : ProgramInput) (result : ℕ) (out out_after err err_after : Option (List ℕ)) where
   pub nothing_to_write : {Z : Type 0} (answer : Result Applied Refused) (text : Option (String Z)) → option_map string_bytes text ≡ to_write answer → text ≡ None
