@@ -1,6 +1,6 @@
 -- What the programs do with what they were given.
 use Rattle.std.proofs.Common.{◌≡◌, ◌∙◌, ◌++◌, ℕ, List, [], Option, Some, None, Result, Ok, Err, Bool, true, false, inl, inr, refl, sym, ap, subst, option_map, string_bytes}
-use Rattle.std.specs.Prelude.{IfOk, IfErr, MatchResult, if◌then◌else◌, is_err, not, ◌&&◌}
+use Rattle.std.specs.Prelude.{IfOk, IfErr, MatchResult, unwrap_or, if◌then◌else◌, is_err, not, ◌&&◌}
 use Rattle.std.proofs.lemmas.List.{append-nil}
 use Rattle.std.specs.Result.{result_ok}
 use Rattle.std.specs.declared.string.String.{String}
@@ -10,7 +10,7 @@ use Rattle.tf_plan_planner.specs.declared.refused.Refused.{Refused}
 use Rattle.tf_plan_planner.specs.declared.refused.Refused.TheVariants.{NoMemory, These}
 use Rattle.tf_provider_protocol.specs.Meaning.{Meaning}
 use Rattle.tf_walk.specs.Workers.{are_workers}
-use Rattle.tf_cli.specs.Applies.{IsCarriedOut, IsPlanOf, IsPlanText, text_in}
+use Rattle.tf_cli.specs.Applies.{IsCarriedOut, IsPlanOf}
 use Rattle.tf_cli_text.specs.Shown.{to_write}
 use Rattle.tf_cli_files.specs.Kept.{EndsKept}
 use Rattle.tf_cli.specs.Refusals.{AreRefusals, IsNumberRefused}
@@ -20,7 +20,7 @@ use Rattle.tf_cli_text.specs.Shown.{all_good, errors_of, is_torn, refused_errors
 use Rattle.tf_plan_data.specs.Plan.{PlanView, plan_of}
 use Rattle.tf_plan_data.specs.declared.plan.Plan.{Plan}
 use Rattle.tf_walk_report.specs.Report.{report_of}
-use Rattle.tf_cli_program.specs.Work.{EndsApply, EndsWith, IsAnswer, IsPlanAtMost, IsPrinted, IsShown, texts_of}
+use Rattle.tf_cli_program.specs.Work.{EndsApply, EndsWith, IsAnswer, IsPlanAtMost, IsPrinted, IsShown, IsShownPlan, texts_of}
 use Rattle.tf_cli_text.specs.declared.applied.Applied.{Applied}
 use Rattle.tf_cli_files.specs.declared.given.ProgramInput.{ProgramInput}
 
@@ -66,44 +66,25 @@ module _ (ms : List Meaning) (given : ProgramInput) where
   pub refused_ends : (refused : Refused) (out err err_after : Option (List ℕ)) → AppendsStart err err_after (refused_errors refused) → EndsApply ms given (Err refused) 1 out out err err_after
   refused_ends refused out err err_after errors = (refl, (inl refl, errors))
 
-  -- what is printed of a plan's text is at most the plan
-  pub at_most : {F : Type 0} (printed : Option (Result (Unit {0}) F)) (text : List ℕ) (out now : Option (List ℕ)) → IsPlanText ms (texts_of given) text → IsPrinted printed text out now → IsPlanAtMost ms given out now
-  at_most None text out now planned same = inl same
-  at_most (Some printed) text out now planned is = inr (text, planned, is.1)
+  -- what is printed of a text that shows the plan is at most the plan
+  pub at_most : {F : Type 0} (printed : Option (Result (Unit {0}) F)) (text : List ℕ) (out now : Option (List ℕ)) → IsShownPlan ms given text → IsPrinted printed text out now → IsPlanAtMost ms given out now
+  at_most None text out now shows same = inl same
+  at_most (Some printed) text out now shows is = inr (text, shows, is.1)
 
-  -- what is printed of an answer after the plan's text
-  pub shown_after : {F : Type 0} (printed : Result (Unit {0}) F) (text : List ℕ) (answer : Result Applied Refused) (out now out_after err err_after : Option (List ℕ))
-      → IsPlanText ms (texts_of given) text → IfOk answer (λ a. string_bytes a.plan ≡ text)
-      → IsPrinted (Some printed) text out now
+  -- what is printed of an answer after the text that shows the plan
+  pub shows_rest : {F : Type 0} (printed : Result (Unit {0}) F) (answer : Result Applied Refused) (now out_after err err_after : Option (List ℕ))
       → MatchResult printed (λ _. AppendsStart now out_after (summary_of answer)) (λ _. out_after ≡ now)
       → AppendsStart err err_after (errors_of answer)
-      → IsShown ms given answer out out_after err err_after
-  shown_after printed text (Ok a) out now out_after err err_after planned same is rest errors = (
-    subst (λ (t : List ℕ). AppendsStart out out_after (t ++ report_summary (report_of a.walked))) (sym same)
-        (both_part printed out now out_after text (report_summary (report_of a.walked)) is.0 is.1 rest),
-    errors,
-  )
-  shown_after printed text (Err refused) out now out_after err err_after planned same is rest errors = (
-    inr (text, planned, subst (AppendsStart out out_after) (append-nil text) (both_part printed out now out_after text [] is.0 is.1 rest)),
-    errors,
-  )
+      → (out : Option (List ℕ)) (text : List ℕ) → IsShownPlan ms given text → IsPrinted (Some printed) text out now → IsShown ms given answer out out_after err err_after
+  shows_rest printed (Ok a) now out_after err err_after rest errors out text shows is =
+      ((text, shows, both_part printed out now out_after text (report_summary (report_of a.walked)) is.0 is.1 rest), errors)
+  shows_rest printed (Err refused) now out_after err err_after rest errors out text shows is =
+      (inr (text, shows, subst (AppendsStart out out_after) (append-nil text) (both_part printed out now out_after text [] is.0 is.1 rest)), errors)
 
-  -- the text that was printed is the plan's
-  same_text : (plan : PlanView) (text : List ℕ) (answer : Result Applied Refused) → text ≡ text_in plan → IfOk answer (IsCarriedOut ms plan) → IfOk answer (λ a. string_bytes a.plan ≡ text)
-  same_text plan text (Ok a) shown carried_out = carried_out.shown ∙ sym shown
-  same_text plan text (Err refused) shown carried_out = tt
-
-  pub plan_shown : (plan : PlanView) (text : List ℕ) → IsPlanOf ms (texts_of given) (string_bytes given.options.lineage) plan → text ≡ text_in plan → IsPlanText ms (texts_of given) text
-  plan_shown plan text planned shown = record { lineage = string_bytes given.options.lineage; plan = plan; planned = planned; shown = shown }
-
-  -- what is printed of the result of carrying out a plan, after its text
-  pub shows : {F : Type 0} (plan : PlanView) (printed : Result (Unit {0}) F) (text : List ℕ) (answer : Result Applied Refused) (now out_after err err_after : Option (List ℕ))
-      → IsPlanOf ms (texts_of given) (string_bytes given.options.lineage) plan → text ≡ text_in plan → IfOk answer (IsCarriedOut ms plan)
-      → MatchResult printed (λ _. AppendsStart now out_after (summary_of answer)) (λ _. out_after ≡ now)
-      → AppendsStart err err_after (errors_of answer)
-      → (out : Option (List ℕ)) → IsPrinted (Some printed) text out now → IsShown ms given answer out out_after err err_after
-  shows plan printed text answer now out_after err err_after planned shown carried_out rest errors out is =
-      shown_after printed text answer out now out_after err err_after (plan_shown plan text planned shown) (same_text plan text answer shown carried_out) is rest errors
+-- the text that shows a plan is the one with old values if that is asked for
+pub shown_is : (b : Bool) (diff : Option (List ℕ)) (text with_old plain : List ℕ) → diff ≡ (if b then Some with_old else None) → text ≡ plain → unwrap_or diff text ≡ (if b then with_old else plain)
+shown_is true diff text with_old plain e f = rw e refl
+shown_is false diff text with_old plain e f = rw e f
 
 module _ (ms : List Meaning) (given : ProgramInput) (result : ℕ) (out out_after err err_after : Option (List ℕ)) where
   pub nothing_to_write : {Z : Type 0} (answer : Result Applied Refused) (text : Option (String Z)) → option_map string_bytes text ≡ to_write answer → text ≡ None

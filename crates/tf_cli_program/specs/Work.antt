@@ -1,5 +1,5 @@
 -- What the programs do with the files that they were given.
-use Rattle.std.specs.Prelude.{◌≡◌, ◌⊎◌, ◌&&◌, if◌then◌else◌, ◌==◌, not, true, false, IfOk, MatchOption, ℕ, List, length, Option, Some, None, Result, Ok, Err, OnOk, option_map, string_bytes}
+use Rattle.std.specs.Prelude.{◌≡◌, ◌⊎◌, ◌&&◌, if◌then◌else◌, ◌==◌, ◌++◌, not, true, false, IfOk, MatchOption, ℕ, List, length, Option, Some, None, Result, Ok, Err, OnOk, option_map, string_bytes}
 use Rattle.std.specs.Io.KnownBytes.{Appends}
 use Rattle.std.specs.Process.{exit_status}
 use Rattle.std.specs.declared.alloc.Global.{Global}
@@ -10,10 +10,13 @@ use Rattle.tf_plan_planner.specs.Refused.{Tells}
 use Rattle.tf_plan_planner.specs.declared.refused.Refused.{Refused}
 use Rattle.tf_provider_protocol.specs.Meaning.{Meaning}
 use Rattle.tf_walk.specs.Workers.{are_workers}
-use Rattle.tf_cli.specs.Applies.{IsApplied, IsPlanOf, IsPlanText, text_in}
+use Rattle.tf_cli.specs.Applies.{IsApplied, IsPlanOf, text_in}
 use Rattle.tf_cli_options.specs.declared.words.Options.{Options}
 use Rattle.tf_cli_text.specs.Shown.{to_write}
 use Rattle.tf_provider_log.specs.Header.{HeaderView}
+use Rattle.tf_plan_diff.specs.Diff.{diff_text}
+use Rattle.tf_plan_diff.specs.declared.headings.Colours.{Colours}
+use Rattle.tf_plan_json.specs.Document.{json_text}
 use Rattle.tf_plan_text.specs.Dot.{IsDrawn}
 use Rattle.tf_plan_data.specs.Plan.{PlanView}
 use Rattle.tf_cli_files.specs.Kept.{EndsKept, text_in_place}
@@ -21,7 +24,8 @@ use Rattle.tf_cli_files.specs.declared.log_file.Settled.{Settled}
 use Rattle.tf_cli_files.specs.declared.log_file.Settled.TheVariants.{NoCalls, Replaced, UpToDate}
 use Rattle.tf_cli.specs.Refusals.{AreApplyRefusals, AreRefusals}
 use Rattle.tf_cli_lines.specs.Saved.{AppendsStart}
-use Rattle.tf_cli_text.specs.Shown.{applied_errors, applied_output, refused_errors, status_of}
+use Rattle.tf_cli_text.specs.Shown.{applied_errors, refused_errors, report_summary, status_of}
+use Rattle.tf_walk_report.specs.Report.{report_of}
 use Rattle.tf_cli_text.specs.declared.applied.Applied.{Applied}
 use Rattle.tf_cli_files.specs.declared.given.ProgramInput.{ProgramInput}
 
@@ -38,19 +42,31 @@ header_given given = record {
   lineage = string_bytes given.options.lineage;
 }
 
+-- the text that shows a plan: with the old values, if the options ask for them
+abbrev pub shown_text : Options → Colours → PlanView → List ℕ
+shown_text options colours plan = if options.diff then diff_text colours plan else text_in plan
+
+-- the text that shows the plan of what was given, in some colours
+pub record IsShownPlan (ms : List Meaning) (given : ProgramInput) (text : List ℕ) : Type 0 where
+  pub colours : Colours
+  pub plan : PlanView
+  pub planned : IsPlanOf ms (texts_of given) (string_bytes given.options.lineage) plan
+  pub shows : text ≡ shown_text given.options colours plan
+
 -- the text of a plan in the form that the options ask for
-abbrev pub PrintsAs : Options → PlanView → List ℕ → Type 0
-PrintsAs options plan text = MatchOption options.graph (text ≡ text_in plan) (λ form. IsDrawn plan text)
+abbrev pub PrintsAs : Options → Colours → PlanView → List ℕ → Type 0
+PrintsAs options colours plan text =
+    MatchOption options.graph (text ≡ (if options.json then json_text plan else shown_text options colours plan)) (λ form. IsDrawn plan text)
 
 -- 2 if the plan has actions and the options ask for a status that says so, else 0
 abbrev pub plan_status : Options → PlanView → ℕ
 plan_status options plan = if options.detailed_exitcode && not (length plan.actions == 0) then 2 else 0
 
 -- what `plan` prints, and its status
-pub record IsPlanPrint (ms : List Meaning) (given : ProgramInput) (text : List ℕ) (status : ℕ) : Type 0 where
+pub record IsPlanPrint (ms : List Meaning) (given : ProgramInput) (colours : Colours) (text : List ℕ) (status : ℕ) : Type 0 where
   pub plan : PlanView
   pub planned : IsPlanOf ms (texts_of given) (string_bytes given.options.lineage) plan
-  pub prints : PrintsAs given.options plan text
+  pub prints : PrintsAs given.options colours plan text
   pub ends : status ≡ plan_status given.options plan
 
 -- an answer as plain data
@@ -59,9 +75,9 @@ plain_answer (Ok (text, status)) = Ok (string_bytes text, status)
 plain_answer (Err refused) = Err refused
 
 -- the answer of a plan of what was given: its text and status, or what is refused
-abbrev pub IsPlanAnswer : List Meaning → ProgramInput → Result (List ℕ × ℕ) Refused → Type 0
-IsPlanAnswer ms given (Ok printed) = IsPlanPrint ms given printed.0 printed.1
-IsPlanAnswer ms given (Err refused) = Tells (AreRefusals ms (texts_of given)) refused
+abbrev pub IsPlanAnswer : List Meaning → ProgramInput → Colours → Result (List ℕ × ℕ) Refused → Type 0
+IsPlanAnswer ms given colours (Ok printed) = IsPlanPrint ms given colours printed.0 printed.1
+IsPlanAnswer ms given colours (Err refused) = Tells (AreRefusals ms (texts_of given)) refused
 
 -- The text, or a beginning of it if a write failed, is on standard output, with its status; or the refusals, or a beginning of
 -- them, are on standard error, with status 1. Nothing else is written to either.
@@ -86,11 +102,14 @@ IsPrinted (Some printed) text out out_after = OnOk printed (Appends out out_afte
 -- at most the text of the plan is on standard output
 abbrev pub IsPlanAtMost : List Meaning → ProgramInput → (out out_after : Option (List ℕ)) → Type 0
 IsPlanAtMost ms given out out_after =
-    (out_after ≡ out) ⊎ ((text : List ℕ) × IsPlanText ms (texts_of given) text × AppendsStart out out_after text)
+    (out_after ≡ out) ⊎ ((text : List ℕ) × IsShownPlan ms given text × AppendsStart out out_after text)
 
--- What is printed of an answer, or a beginning of it, and nothing else. An apply may be refused after its plan was printed.
+-- What is printed of an answer, or a beginning of it, and nothing else: the plan and then the summary. An apply may be refused after
+-- its plan was printed.
 abbrev pub IsShown : List Meaning → ProgramInput → Result Applied Refused → (out out_after err err_after : Option (List ℕ)) → Type 0
-IsShown ms given (Ok a) out out_after err err_after = AppendsStart out out_after (applied_output a) × AppendsStart err err_after (applied_errors a)
+IsShown ms given (Ok a) out out_after err err_after =
+    ((text : List ℕ) × IsShownPlan ms given text × AppendsStart out out_after (text ++ report_summary (report_of a.walked)))
+    × AppendsStart err err_after (applied_errors a)
 IsShown ms given (Err refused) out out_after err err_after = IsPlanAtMost ms given out out_after × AppendsStart err err_after (refused_errors refused)
 
 -- The answer is printed, and then the state is written, if there is one to write.

@@ -1,16 +1,19 @@
 //! What the program `apply` does with the files that it was given.
 
-ghost use Rattle.std.specs.Prelude.{◌≡◌, ℕ, List, Option, Some, map, string_bytes};
+ghost use Rattle.std.specs.Prelude.{◌≡◌, ℕ, List, IfErr, IfOk, None, Option, Some, if◌then◌else◌, map, option_map, string_bytes, unwrap_or};
 ghost use Rattle.std.specs.Process.{exit_status};
 ghost use Rattle.tf_cli.specs.Applies.{IsPlanOf, MayStart, text_in};
 ghost use Rattle.tf_cli_lines.specs.Saved.{AppendsStart};
-ghost use Rattle.tf_cli_program.specs.Work.{EndsApply, EndsLogged, IsAnswer, IsPrinted, IsSettled, texts_of};
+ghost use Rattle.tf_cli_program.specs.Work.{EndsApply, EndsLogged, IsAnswer, IsPrinted, IsSettled, IsShownPlan, texts_of};
+ghost use Rattle.tf_plan_diff.specs.Diff.{diff_text};
+ghost use Rattle.tf_plan_planner.specs.declared.refused.Refused.TheVariants.{NoMemory};
 ghost use Rattle.tf_cli_text.specs.Shown.{refused_errors};
 ghost use Rattle.tf_walk_action.specs.Words.{plan_of};
 
 use crate::approval::Approval;
 use crate::logging::{empty_log, start};
 use crate::planning::plan_given;
+use std::alloc::Global;
 use std::io::Write;
 use std::process::ExitCode;
 use std::rt::Files;
@@ -23,7 +26,9 @@ use tf_cli::{
 use tf_cli_files::{
     LogFile, NotInPlace, Place, ProgramInput, Settled, UNWRITTEN, keep_state, tell_lost,
 };
+use tf_cli_options::Options;
 use tf_plan_data::Planned;
+use tf_plan_diff::{Colours, diff_text};
 use tf_provider::Provider;
 use tf_provider_log::{OpenLog, Sink};
 
@@ -75,7 +80,7 @@ fn refuse<E: Write>(refused: &Refused, err: &mut E) -> ExitCode
     ExitCode::FAILURE
 }
 
-/// Makes the plan's text; if the user is to approve the plan, prints that text and asks; then carries the plan out.
+/// Makes the text that shows the plan; if the user has to approve the plan, prints that text and asks; then carries the plan out.
 fn approve_and_run<
     R: Files + AllocGlobal,
     T: Threads + Wait + Sync,
@@ -107,12 +112,16 @@ where
         Ok(text) => text,
         Err(refused) => return refuse(&refused, err),
     };
+    let diff = match diff_of(rt.alloc(), &given.options, approval.colours(), planned) {
+        Ok(diff) => diff,
+        Err(refused) => return refuse(&refused, err),
+    };
     if planned.plan.actions.is_empty() || !approval.is_asked() {
         return run_logged(
-            rt, threads, place, file, log, given, planned, text, None, providers, stop, out, err,
+            rt, threads, place, file, log, given, planned, text, diff, None, providers, stop, out, err,
         );
     }
-    let printed = save(out, text.as_str());
+    let printed = save(out, shown_of(&text, &diff));
     if !approval.approves() {
         return ExitCode::FAILURE;
     }
@@ -125,6 +134,7 @@ where
         given,
         planned,
         text,
+        diff,
         Some(printed),
         providers,
         stop,
@@ -133,7 +143,34 @@ where
     )
 }
 
-/// Starts the log, prints the plan's text if it isn't printed yet, carries the plan out, and empties the log.
+/// Returns the text of a plan with old values, if the options ask for it. Refuses only if memory runs out.
+fn diff_of(
+    alloc: Global,
+    options: &Options,
+    colours: Colours,
+    planned: &Planned,
+) -> Result<Option<String>, Refused>
+    ensures diff { IfOk result (λ diff. option_map string_bytes diff ≡ (if options.now.diff then Some (diff_text colours (plan_of planned.now)) else None)) }
+    ensures refused { IfErr result (λ refused. refused ≡ NoMemory) }
+{
+    if !options.diff {
+        return Ok(None);
+    }
+    let text = diff_text(alloc, &planned.plan, colours)?;
+    Ok(Some(text))
+}
+
+/// Returns the text that shows a plan: that with old values, if there is one, or the plan's own.
+fn shown_of<'a>(text: &'a String, diff: &'a Option<String>) -> &'a str
+    ensures { result.now ≡ unwrap_or (option_map string_bytes diff.now) (string_bytes text.now) }
+{
+    match diff {
+        Some(diff) => diff.as_str(),
+        None => text.as_str(),
+    }
+}
+
+/// Starts the log, prints the text that shows the plan if it isn't printed yet, carries the plan out, and empties the log.
 fn run_logged<R: Files + AllocGlobal, T: Threads + Wait + Sync, S: Sink, O: Write, E: Write>(
     rt: &R,
     threads: &T,
@@ -143,6 +180,7 @@ fn run_logged<R: Files + AllocGlobal, T: Threads + Wait + Sync, S: Sink, O: Writ
     given: &ProgramInput,
     planned: &Planned,
     text: String,
+    diff: Option<String>,
     printed: Option<Printed>,
     providers: &[Box<dyn Provider + Sync>],
     stop: &Stop,
@@ -154,12 +192,13 @@ where
     requires starts { MayStart (map meaning providers.now) (plan_of planned.now) }
     requires planned { IsPlanOf (map meaning providers.now) (texts_of given.now) (string_bytes given.now.options.lineage) (plan_of planned.now) }
     requires shown { string_bytes text ≡ text_in (plan_of planned.now) }
-    ensures { (before : Option (List ℕ)) → IsPrinted printed (string_bytes text) before (O.contents out.old) → EndsLogged (map meaning providers.now) given.now result before (O.contents out.new) (E.contents err.old) }
+    requires shows { IsShownPlan (map meaning providers.now) given.now (unwrap_or (option_map string_bytes diff) (string_bytes text)) }
+    ensures { (before : Option (List ℕ)) → IsPrinted printed (unwrap_or (option_map string_bytes diff) (string_bytes text)) before (O.contents out.old) → EndsLogged (map meaning providers.now) given.now result before (O.contents out.new) (E.contents err.old) }
 {
     if let Err(status) = start(rt, place, log, given, err) {
         return status;
     }
-    let printed = print_text(printed, text.as_str(), out);
+    let printed = print_text(printed, shown_of(&text, &diff), out);
     let (status, settled) = carry_out(
         rt, threads, place, log, given, planned, text, printed, providers, stop, out, err,
     );
@@ -172,7 +211,7 @@ where
     ExitCode::from(status)
 }
 
-/// Prints the plan's text, unless it is already printed.
+/// Prints a text, unless it is already printed.
 fn print_text<O: Write>(printed: Option<Printed>, text: &str, out: &mut O) -> Printed
     ensures { (before : Option (List ℕ)) → IsPrinted printed text.now before (O.contents out.old) → IsPrinted (Some result) text.now before (O.contents out.new) }
 {
@@ -182,7 +221,7 @@ fn print_text<O: Write>(printed: Option<Printed>, text: &str, out: &mut O) -> Pr
     }
 }
 
-/// Carries out a plan of what `apply` was given, whose text is printed, with the number of workers that its options name. Prints
+/// Carries out a plan of what `apply` was given, which is already printed, with the number of workers that its options name. Prints
 /// the rest of the result, and writes the state if it changed. Returns the status, and why the log isn't needed any more; `None`
 /// if the state isn't written, which is status 3. The log of the calls is synced before the state is written; if it can't be, it
 /// is lost.
@@ -203,7 +242,7 @@ pub fn carry_out<R: Files + AllocGlobal, T: Threads + Wait + Sync, S: Sink, O: W
     requires starts { MayStart (map meaning providers.now) (plan_of planned.now) }
     requires planned { IsPlanOf (map meaning providers.now) (texts_of given.now) (string_bytes given.now.options.lineage) (plan_of planned.now) }
     requires shown { string_bytes text ≡ text_in (plan_of planned.now) }
-    ensures { (answer : _) × IsAnswer (map meaning providers.now) given.now answer × IsSettled answer result.0 result.1 × ((before : Option (List ℕ)) → IsPrinted (Some printed) (string_bytes text) before (O.contents out.old) → EndsApply (map meaning providers.now) given.now answer result.0 before (O.contents out.new) (E.contents err.old) (E.contents err.new)) }
+    ensures { (answer : _) × IsAnswer (map meaning providers.now) given.now answer × IsSettled answer result.0 result.1 × ((before : Option (List ℕ)) (shown : List ℕ) → IsShownPlan (map meaning providers.now) given.now shown → IsPrinted (Some printed) shown before (O.contents out.old) → EndsApply (map meaning providers.now) given.now answer result.0 before (O.contents out.new) (E.contents err.old) (E.contents err.new)) }
 {
     let workers = given.options.parallelism;
     let answer = carry_out_plan(threads, rt.alloc(), planned, text, providers, workers, stop);

@@ -1,12 +1,26 @@
-//! The question whether a plan may be carried out.
+//! The question whether a plan may be carried out, and the colours of a plan.
 
+use std::env;
 use std::io::{Input, IsTerminal};
 use tf_cli_files::ProgramInput;
 use tf_cli_lines::save;
 use tf_cli_program::Approval;
+use tf_plan_diff::Colours;
 
 const QUESTION: &str =
     "\nDo you want to perform these actions?\n  Only 'yes' will be accepted to approve.\n\n  Enter a value: ";
+
+/// Returns the colours for standard output: none if it isn't a terminal, or if the environment has a variable `NO_COLOR` that
+/// isn't empty.
+pub(crate) fn colours(rt: &HostRuntime) -> Colours {
+    if !rt.stdout().is_terminal() {
+        return Colours::Plain;
+    }
+    match env::var(rt, "NO_COLOR") {
+        Ok(value) if !value.is_empty() => Colours::Plain,
+        _ => Colours::Ansi,
+    }
+}
 
 /// Asks for approval if standard input and standard output are terminals, unless the options say that nobody is asked.
 #[derive(Drop)]
@@ -26,6 +40,10 @@ impl AtTerminal {
 }
 
 impl Approval for AtTerminal {
+    fn colours(&self) -> Colours {
+        colours(&self.rt)
+    }
+
     fn is_asked(&self) -> bool {
         !self.auto_approve && self.rt.stdin().is_terminal() && self.rt.stdout().is_terminal()
     }

@@ -1,5 +1,6 @@
 //! The work of `plan`.
 
+use crate::approving::colours;
 use crate::explaining::{explains, sources};
 use crate::previewing::preview;
 use std::io;
@@ -24,6 +25,9 @@ pub fn plan<O: Write, E: Write>(
     out: &mut O,
     err: &mut E,
 ) -> io::Result<ExitCode> {
+    if let Err(status) = check_forms(&options, err) {
+        return Ok(status);
+    }
     let seen = match see(rt, options, err) {
         Ok(seen) => seen,
         Err(status) => return Ok(status),
@@ -39,6 +43,27 @@ pub fn plan<O: Write, E: Write>(
     print_given(rt, &place, &given, out, err)
 }
 
+/// Checks that the options ask for one form of the plan. If they ask for two, prints that, and returns the program's status, 1.
+fn check_forms<E: Write>(options: &Options, err: &mut E) -> Result<(), ExitCode> {
+    let forms = [
+        (options.graph.is_some(), "--graph"),
+        (options.json, "--json"),
+        (options.diff, "--diff"),
+    ];
+    let mut first = None;
+    for (is_given, name) in forms {
+        if !is_given {
+            continue;
+        }
+        if let Some(first) = first {
+            let _ = writeln!(err, "error: {name} cannot be used with {first}");
+            return Err(ExitCode::FAILURE);
+        }
+        first = Some(name);
+    }
+    Ok(())
+}
+
 /// Prints the plan in the form that the options ask for.
 fn print_given<O: Write, E: Write>(
     rt: &HostRuntime,
@@ -52,6 +77,7 @@ fn print_given<O: Write, E: Write>(
     providers.push(Box::new(rt.alloc(), LocalFile::new(rt.alloc(), *rt)?)?)?;
     let files = sources(given, place, providers.as_slice());
     let mut err = Explained::new(rt.alloc(), err, explains(rt, given), files);
-    let status = print_plan(rt.alloc(), given, &providers, out, &mut err);
+    let colours = colours(rt);
+    let status = print_plan(rt.alloc(), given, colours, &providers, out, &mut err);
     Ok(ExitCode::from(status))
 }

@@ -1,6 +1,6 @@
-use Rattle.std.proofs.Common.{inl, inr, map, refl, string_bytes}
+use Rattle.std.proofs.Common.{inl, inr, map, option_map, refl, string_bytes}
 use Rattle.tf_plan_data.specs.Plan.{plan_of}
-use Rattle.tf_cli_program.proofs.Worked.{plan_shown}
+use Rattle.tf_cli_program.proofs.Worked.{shown_is}
 use Rattle.tf_cli_program.proofs.applying.approve_and_run.Goals as goal
 
 pub returns-then-is_empty : goal.returns-then-is_empty
@@ -10,11 +10,16 @@ pub returns-then-not-approves : goal.returns-then-not-approves
 returns-then-not-approves g c = inl (
   refl,
   inr (
-    string_bytes c.in-Ok.text,
-    plan_shown (map (λ b. (goal.Provider-dyn g (b.vtable, b.value)).meaning b.value) c.args.providers.now) c.args.given.now (plan_of c.args.planned.now) (string_bytes c.in-Ok.text) c.requires.planned c.in-Ok.ensures.shown,
-    rw (← c.as_str.ensures.value) c.save-printed.ensures.part,
+    c.shown_of.result.now,
+    rw c.shown_of.ensures (record {
+      colours = c.colours.result;
+      plan = plan_of c.args.planned.now;
+      planned = c.requires.planned;
+      shows = shown_is c.args.given.now.options.diff (option_map string_bytes c.in-Ok-2.diff) (string_bytes c.in-Ok.text) _ _ c.in-Ok-2.ensures.diff c.in-Ok.ensures.shown;
+    }),
+    c.save-printed.ensures.part,
   ),
 )
 
 pub returns : goal.returns
-returns g c = c.run_logged-2.ensures _ (rw (← c.as_str.ensures.value) (c.save-printed.ensures.whole, c.save-printed.ensures.part))
+returns g c = c.run_logged-2.ensures _ (rw (← c.shown_of.ensures) (c.save-printed.ensures.whole, c.save-printed.ensures.part))
