@@ -1,0 +1,4 @@
+pub mod Document
+pub mod Parts
+pub mod Reasons
+pub mod Views

@@ -1,0 +1,113 @@
+//! The document.
+
+ghost use Rattle.std.specs.Prelude.{◌≡◌, IfOk, OnOk, map, string_bytes};
+ghost use Rattle.serde_json.specs.Data.{array, object};
+ghost use Rattle.serde_json.specs.Events.{SendsValue};
+ghost use Rattle.serde_json.specs.View.{items_of};
+ghost use Rattle.tf_plan_data.specs.Plan.{plan_of};
+ghost use Rattle.tf_plan_json.specs.Document.{document_data, json_text, variable_data, variables_data};
+ghost use Rattle.tf_plan_json.specs.Views.{entry_view};
+ghost use Rattle.tf_value_data.specs.Tree.{entries_view, tree_of};
+
+use crate::changing::send_entry;
+use crate::listing::{Entry, entries};
+use serde::{Described, Serialize, Serializer};
+use std::alloc::{AllocError, Global};
+use std::collections::BTreeMap;
+use tf_plan_data::Plan;
+use tf_value_data::Value;
+use tf_value_json::AsJson;
+
+/// Returns a plan as one JSON document, in the shape of Terraform's plan representation: its variables and its changes,
+/// in address order, each once. Two spaces a level, keys in byte order, and one newline at the end.
+///
+/// # Errors
+///
+/// Fails only if memory runs out.
+pub fn json_text(alloc: Global, plan: &Plan) -> Result<String, AllocError>
+    ensures { IfOk result (λ text. string_bytes text ≡ json_text (plan_of plan.now)) }
+{
+    let entries = entries(alloc, plan)?;
+    let document = PlanDocument {
+        variables: &plan.variables,
+        entries: entries.as_slice(),
+    };
+    match tf_value_json::text(alloc, &document) {
+        Ok(text) => Ok(text),
+        // The events are well formed, so only memory can run out.
+        Err(_) => Err(AllocError),
+    }
+}
+
+/// What the document has of a plan.
+#[derive(Drop)]
+struct PlanDocument<'a> {
+    variables: &'a BTreeMap<String, Value>,
+    entries: &'a [Entry<'a>],
+}
+
+impl Described for PlanDocument<'_> {
+    ghost writes = { λ it. SendsValue (document_data (entries_view it.variables.now.entries) (map entry_view it.entries.now)) };
+}
+
+impl Serialize for PlanDocument<'_> {
+    fn serialize<S: Serializer>(&self, out: &mut S) -> Result<(), S::Error> {
+        send_document(self.variables, self.entries, out)
+    }
+}
+
+fn send_document<S: Serializer>(
+    variables: &BTreeMap<String, Value>,
+    entries: &[Entry<'_>],
+    out: &mut S,
+) -> Result<(), S::Error>
+    ensures { OnOk result (SendsValue (document_data (entries_view variables.now.entries) (map entry_view entries.now)) (S.written out.old) (S.written out.new)) }
+{
+    out.begin_map(Some(6))?;
+    out.key("complete")?;
+    out.bool(true)?;
+    out.key("errored")?;
+    out.bool(false)?;
+    out.key("format_version")?;
+    out.str("1.2")?;
+    out.key("resource_changes")?;
+    send_entries(entries, out)?;
+    out.key("terraform_version")?;
+    out.str("1.0.0")?;
+    out.key("variables")?;
+    send_variables(variables, out)?;
+    out.end_map()
+}
+
+fn send_entries<S: Serializer>(entries: &[Entry<'_>], out: &mut S) -> Result<(), S::Error>
+    ensures { OnOk result (SendsValue (array (items_of (map entry_view entries.now))) (S.written out.old) (S.written out.new)) }
+{
+    out.begin_seq(Some(entries.len()))?;
+    for entry in entries {
+        send_entry(entry, out)?;
+    }
+    out.end_seq()
+}
+
+fn send_variables<S: Serializer>(
+    variables: &BTreeMap<String, Value>,
+    out: &mut S,
+) -> Result<(), S::Error>
+    ensures { OnOk result (SendsValue (object (variables_data (entries_view variables.now.entries))) (S.written out.old) (S.written out.new)) }
+{
+    out.begin_map(Some(variables.len()))?;
+    for (name, value) in variables.iter() {
+        out.key(name.as_str())?;
+        send_variable(value, out)?;
+    }
+    out.end_map()
+}
+
+fn send_variable<S: Serializer>(value: &Value, out: &mut S) -> Result<(), S::Error>
+    ensures { OnOk result (SendsValue (variable_data (tree_of value.now)) (S.written out.old) (S.written out.new)) }
+{
+    out.begin_map(Some(1))?;
+    out.key("value")?;
+    AsJson { value }.serialize(out)?;
+    out.end_map()
+}

@@ -1,0 +1,11 @@
+//! A plan as one JSON document, in the shape of Terraform's plan representation (`terraform show -json`).
+#![tactic(auto)]
+
+mod changing;
+mod document;
+mod known;
+mod listing;
+mod reasons;
+mod unknown;
+
+pub use document::json_text;
