@@ -87,9 +87,8 @@ module _ (reason : Option (List ℕ)) (address provider : List ℕ) (c : ChangeV
 pub document_sent : (variables : Entries) (made : List Data) (l0 l1 l2 l3 l4 l5 l6 l7 l8 : Log) → Logs l0 l1 (map_begins (Some 6)) → Sends (codes "complete") (boolean true) l1 l2 → Sends (codes "errored") (boolean false) l2 l3
     → Sends (codes "format_version") (string (codes "1.2")) l3 l4 → Sends (codes "resource_changes") (array (items_of made)) l4 l5 → Sends (codes "terraform_version") (string (codes "1.0.0")) l5 l6
     → Sends (codes "variables") (object (variables_data variables)) l6 l7 → Logs l7 l8 map_ends → SendsValue (document_data variables made) l0 l8
-document_sent variables made l0 l1 l2 l3 l4 l5 l6 l7 l8 begun complete errored format changes version given ended =
-    (
-      l1,
-      begun,
-      (complete.0, l2, complete.1, complete.2, (errored.0, l3, errored.1, errored.2, (format.0, l4, format.1, format.2, (changes.0, l5, changes.1, changes.2, (version.0, l6, version.1, version.2, (given.0, l7, given.1, given.2, ended)))))),
-    )
+document_sent variables made l0 l1 l2 l3 l4 l5 l6 l7 l8 begun complete errored format changes version given ended = (
+  l1,
+  begun,
+  (complete.0, l2, complete.1, complete.2, (errored.0, l3, errored.1, errored.2, (format.0, l4, format.1, format.2, (changes.0, l5, changes.1, changes.2, (version.0, l6, version.1, version.2, (given.0, l7, given.1, given.2, ended)))))),
+)

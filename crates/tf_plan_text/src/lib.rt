@@ -11,4 +11,5 @@ mod text;
 
 pub use drawing::dot_text;
 pub use reducing::reduction;
-pub use text::plan_text;
+pub use shown::show_value;
+pub use text::{plan_text, show_summary};

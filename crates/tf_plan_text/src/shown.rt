@@ -14,6 +14,10 @@ use tf_value_data::Value;
 
 /// Writes a value's compact JSON text at the end of a text, with `(known after apply)` for each part that isn't known
 /// yet.
+///
+/// # Errors
+///
+/// Fails only if memory runs out.
 #[cycle(show)]
 pub fn show_value(alloc: Global, text: &mut String, value: &Value) -> Result<(), AllocError>
     ensures { OnOk result (string_bytes text.new ≡ string_bytes text.old ++ shown (tree_of value.now)) }

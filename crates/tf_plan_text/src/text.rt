@@ -160,7 +160,11 @@ fn show_line(alloc: Global, text: &mut String, name: &str, value: &Value) -> Res
 }
 
 /// Shows how many objects are added, changed and destroyed.
-fn show_summary(text: &mut String, actions: &[Action]) -> Result<(), AllocError>
+///
+/// # Errors
+///
+/// Fails only if memory runs out.
+pub fn show_summary(text: &mut String, actions: &[Action]) -> Result<(), AllocError>
     ensures { OnOk result (string_bytes text.new ≡ string_bytes text.old
         ++ summary_line (count_of adds (map action_of actions.now)) (count_of changes (map action_of actions.now)) (count_of destroys (map action_of actions.now))) }
 {

@@ -1,0 +1,3 @@
+pub mod FewHidden
+pub mod InOrder
+pub mod Pushed

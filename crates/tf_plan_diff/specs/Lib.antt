@@ -1,0 +1,3 @@
+pub mod Diff
+pub mod Safe
+pub mod Symbols
