@@ -6,6 +6,7 @@ ghost use Rattle.std.specs.Prelude.{OnOk};
 use crate::answers::sha1_of;
 use crate::folders::{Made, folder_of, sync_folder};
 use crate::own::is_own;
+use crate::reserved::is_reserved;
 use crate::wanted::{UnwantedFile, Wanted, WantedFile};
 use std::alloc::{AllocError, Global};
 use std::fs::{OpenFile, OpenOptions};
@@ -21,9 +22,12 @@ pub enum Ending {
     Wanted,
     /// The file at the name isn't the one that was made for the object, so it stays.
     Kept,
+    /// The name of the wanted file is reserved, so it isn't written.
+    Reserved,
 }
 
-/// Writes or removes the wanted file, for the object at an address.
+/// Writes or removes the wanted file, for the object at an address. Doesn't write a file of a reserved name; everything is then as
+/// it was before.
 ///
 /// # Errors
 ///
@@ -31,55 +35,68 @@ pub enum Ending {
 pub fn fulfil<R: Files>(
     alloc: Global,
     rt: &R,
+    reserved: &[String],
     address: &str,
     wanted: &Wanted<'_>,
 ) -> io::Result<Ending> {
     match wanted {
-        Wanted::File(file) => {
-            put(alloc, rt, address, file)?;
-            Ok(Ending::Wanted)
-        }
+        Wanted::File(file) => put(alloc, rt, reserved, address, file),
         Wanted::NoFile(file) => remove(alloc, rt, file),
     }
 }
 
 /// Writes a new file in the same folder, and renames it to the wanted name when all of it is on the disk. Removes an
 /// earlier file at the new one's name, which a killed program left.
-fn put<R: Files>(alloc: Global, rt: &R, address: &str, file: &WantedFile<'_>) -> io::Result<()> {
+fn put<R: Files>(
+    alloc: Global,
+    rt: &R,
+    reserved: &[String],
+    address: &str,
+    file: &WantedFile<'_>,
+) -> io::Result<Ending> {
     let name = new_name(alloc, address, file.name)?;
     let new = name.as_str();
     let _ = fs::remove_file(rt, new);
     let mut made = Made::none(file.name);
-    match write_new(rt, new, file, &mut made) {
-        Ok(()) => {
+    match write_new(rt, new, reserved, file, &mut made) {
+        Ok(Ending::Wanted) => {
             sync_folder(rt, file.name);
             made.sync(rt);
-            Ok(())
+            Ok(Ending::Wanted)
         }
-        Err(error) => {
+        unwritten => {
             let _ = fs::remove_file(rt, new);
             made.remove(rt);
-            Err(error)
+            unwritten
         }
     }
 }
 
-/// Writes a file at a new name, creates folders as needed, syncs the file to the disk, and renames it.
+/// Writes a file at a new name, creates folders as needed, syncs the file to the disk, and renames it. Doesn't if the wanted name
+/// is reserved, which can be seen only once the folders exist: `missing/../vars.json` is `vars.json` then.
 fn write_new<R: Files>(
     rt: &R,
     new: &str,
+    reserved: &[String],
     file: &WantedFile<'_>,
     made: &mut Made<'_>,
-) -> io::Result<()> {
+) -> io::Result<Ending> {
+    if is_reserved(rt, reserved, file.name) {
+        return Ok(Ending::Reserved);
+    }
     let mut written = match create(rt, new, file.mode) {
         Err(error) if error.kind() == ErrorKind::NotFound => {
             made.make(rt)?;
+            if is_reserved(rt, reserved, file.name) {
+                return Ok(Ending::Reserved);
+            }
             create(rt, new, file.mode)?
         }
         opened => opened?,
     };
     fill(&mut written, file)?;
-    fs::rename(rt, new, file.name)
+    fs::rename(rt, new, file.name)?;
+    Ok(Ending::Wanted)
 }
 
 /// Creates an empty file.

@@ -7,7 +7,6 @@ ghost use Rattle.tf_provider_local.specs.Schema.{file_schema};
 use crate::answers::{answer, refusal};
 use crate::attributes::file_schema;
 use crate::disk::{Ending, fulfil};
-use crate::reserved::is_reserved;
 use crate::wanted::{Wanted, wants};
 use std::alloc::{AllocError, Global};
 use std::io;
@@ -52,21 +51,16 @@ impl<R: Files + Eprint + Drop> LocalFile<R> {
     /// Writes or removes the wanted file, and returns whether that succeeded. Prints on standard error which file the
     /// disk refused and why, which name is reserved, and which file a destroy kept.
     fn is_fulfilled(&self, request: &Request, wanted: &Wanted<'_>) -> bool {
-        if let Wanted::File(file) = wanted
-            && is_reserved(&self.rt, &self.reserved, file.name)
-        {
-            let _ = eprintln!(&self.rt;
-                "error: cannot write {:?}: it is a file of this apply",
-                file.name
-            );
-            return false;
-        }
         let address = request.address.as_str();
-        match fulfil(self.alloc, &self.rt, address, wanted) {
+        match fulfil(self.alloc, &self.rt, &self.reserved, address, wanted) {
             Ok(Ending::Wanted) => true,
             Ok(Ending::Kept) => {
                 let _ = print_kept(&self.rt, address, wanted);
                 true
+            }
+            Ok(Ending::Reserved) => {
+                let _ = print_reserved(&self.rt, wanted);
+                false
             }
             Err(error) => {
                 let _ = tell(&self.rt, wanted, &error);
@@ -109,6 +103,17 @@ fn tell<R: Eprint>(rt: &R, wanted: &Wanted<'_>, error: &io::Error) -> io::Result
     match wanted {
         Wanted::File(file) => eprintln!(rt; "error: cannot write {:?}: {error}", file.name),
         Wanted::NoFile(file) => eprintln!(rt; "error: cannot remove {:?}: {error}", file.name),
+    }
+}
+
+/// Prints on standard error that the wanted file isn't written, since it is a file of the program.
+fn print_reserved<R: Eprint>(rt: &R, wanted: &Wanted<'_>) -> io::Result<()> {
+    match wanted {
+        Wanted::File(file) => eprintln!(rt;
+            "error: cannot write {:?}: it is a file of this apply",
+            file.name
+        ),
+        Wanted::NoFile(_) => Ok(()),
     }
 }
 
