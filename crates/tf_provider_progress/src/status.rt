@@ -12,14 +12,15 @@ use std::sync::{Mutex, MutexGuard};
 use std::thread;
 use tf_provider_protocol::Request;
 
-/// Returns to the beginning of the terminal's line, and erases the line.
-const ERASE: &str = "\r\u{1b}[K";
+/// Returns to the beginning of the terminal's line, and erases the line and those below it.
+const ERASE: &str = "\r\u{1b}[J";
 
-/// Has the terminal cut off what is too long for its line, and not continue it in the next one.
-const NO_WRAP: &str = "\u{1b}[?7l";
+/// Begins the status line, one line below the cursor. The terminal has to cut it off if it is too long.
+const BEFORE: &str = "\n\u{1b}[?7l";
 
-/// Has the terminal continue long lines again.
-const WRAP: &str = "\u{1b}[?7h";
+/// Ends the status line: the terminal continues long lines again, and the cursor returns to the line above. So a line that
+/// somebody else writes doesn't run into the status line.
+const AFTER: &str = "\u{1b}[?7h\r\u{1b}[A";
 
 /// The most characters of a status line.
 const MOST_SHOWN: usize = 79;
@@ -156,9 +157,9 @@ impl Calls {
         let running = self.running.len() as u64;
         let mut line = counts(alloc, self.done, running, self.failed)?;
         push_oldest(&mut line, first.name.as_str(), first.watch.seconds(clock))?;
-        text.push_str(NO_WRAP)?;
+        text.push_str(BEFORE)?;
         push_clean(text, line.as_str(), MOST_SHOWN)?;
-        text.push_str(WRAP)
+        text.push_str(AFTER)
     }
 }
 
