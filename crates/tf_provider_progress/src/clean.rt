@@ -2,11 +2,13 @@
 
 use std::alloc::AllocError;
 
-/// Appends at most the given number of characters of a text. Control characters but line breaks, and marks that change
-/// the direction of text, are escaped.
+/// Appends the beginning of a text, so that it is shown by at most the given number of characters. Control characters but
+/// line breaks, and marks that change the direction of text, are escaped.
 pub(crate) fn push_clean(out: &mut String, text: &str, most: usize) -> Result<(), AllocError> {
-    for (number, character) in text.chars().enumerate() {
-        if number >= most {
+    let mut shown = 0usize;
+    for character in text.chars() {
+        shown = shown.saturating_add(shown_by(character));
+        if shown > most {
             break;
         }
         if is_escaped(character) {
@@ -17,6 +19,17 @@ pub(crate) fn push_clean(out: &mut String, text: &str, most: usize) -> Result<()
         }
     }
     Ok(())
+}
+
+/// Returns by how many characters a character is shown.
+fn shown_by(character: char) -> usize {
+    if !is_escaped(character) {
+        1
+    } else if character as u32 > 0xFFFF {
+        7
+    } else {
+        6
+    }
 }
 
 /// Returns whether a character is escaped: a control character, a mark of direction, or a tag.
