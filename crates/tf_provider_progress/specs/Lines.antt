@@ -45,6 +45,21 @@ id_text _ = []
 abbrev pub id_of : tree.Tree → List ℕ
 id_of t = id_text (part_at (codes "id") t)
 
+-- the same in the line of a call that is still running: `id=ID, `
+abbrev pub in_still : List ℕ → List ℕ
+in_still id = if is_plain id then codes "id=" ++ id ++ codes ", " else []
+
+abbrev pub still_id_text : Option tree.Tree → List ℕ
+still_id_text (Some (tree.text id)) = in_still id
+still_id_text _ = []
+
+abbrev pub still_id_of : tree.Tree → List ℕ
+still_id_of t = still_id_text (part_at (codes "id") t)
+
+abbrev pub still_id : Option tree.Tree → List ℕ
+still_id None = []
+still_id (Some t) = still_id_of t
+
 abbrev pub id_suffix : Option tree.Tree → List ℕ
 id_suffix None = []
 id_suffix (Some t) = id_of t
@@ -56,14 +71,39 @@ begun_line a = name a ++ begin_word a.op ++ id_suffix a.prior ++ 10 ∷ []
 -- seconds as in `5s`, `1m5s` and `2h1m5s`
 abbrev pub duration : ℕ → List ℕ
 duration s =
-    if nat_lt s 60 then codes " after " ++ decimal (s % 60) ++ codes "s"
-    else (if nat_lt s 3600 then codes " after " ++ decimal (s / 60 % 60) ++ codes "m" ++ decimal (s % 60) ++ codes "s"
-    else codes " after " ++ decimal (s / 3600) ++ codes "h" ++ decimal (s / 60 % 60) ++ codes "m" ++ decimal (s % 60) ++ codes "s")
+    if nat_lt s 60 then decimal (s % 60) ++ codes "s"
+    else (if nat_lt s 3600 then decimal (s / 60 % 60) ++ codes "m" ++ decimal (s % 60) ++ codes "s"
+    else decimal (s / 3600) ++ codes "h" ++ decimal (s / 60 % 60) ++ codes "m" ++ decimal (s % 60) ++ codes "s")
 
 -- how long the call took, if the clock could be read
 abbrev pub after : Option ℕ → List ℕ
 after None = []
-after (Some seconds) = duration seconds
+after (Some seconds) = codes " after " ++ duration seconds
+
+abbrev pub still_word : Op → List ℕ
+still_word op.Create = codes ": Still creating... ["
+still_word op.Update = codes ": Still modifying... ["
+still_word op.Destroy = codes ": Still destroying... ["
+
+-- the beginning of the line of a call that is still running, up to its time
+abbrev pub still_head : Asked → List ℕ
+still_head a = name a ++ still_word a.op ++ still_id a.prior
+
+-- `ADDRESS: Still creating... [10s elapsed]`, by its beginning
+abbrev pub still_line : List ℕ → ℕ → List ℕ
+still_line head seconds = head ++ duration seconds ++ codes " elapsed]\n"
+
+-- how many calls are done, are running and failed, in the status line
+abbrev pub status_counts : ℕ → ℕ → ℕ → List ℕ
+status_counts done running failed = decimal done ++ codes " done, " ++ decimal running ++ codes " running, " ++ decimal failed ++ codes " failed"
+
+abbrev pub for_seconds : Option ℕ → List ℕ
+for_seconds None = []
+for_seconds (Some seconds) = codes ", " ++ duration seconds
+
+-- the oldest call that is running, with its seconds if the clock could be read
+abbrev pub oldest : List ℕ → Option ℕ → List ℕ
+oldest call seconds = codes ". Oldest: " ++ call ++ for_seconds seconds
 
 -- The answer is what was asked for: an object for a create or an update, and no object for a destroy. Whether the
 -- object is the promised one is reported later, with the diagnostics.

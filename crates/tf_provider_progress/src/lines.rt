@@ -4,7 +4,7 @@ ghost use Rattle.std.specs.List.{list_all};
 ghost use Rattle.std.specs.Prelude.{◌≡◌, ◌++◌, IfOk, OnOk, option_map, string_bytes};
 ghost use Rattle.tf_provider_protocol.specs.Meaning.{answered, asked};
 ghost use Rattle.tf_value_data.specs.Tree.{tree_of};
-ghost use Rattle.tf_provider_progress.specs.Lines.{after, begin_word, begun_line, duration, end_word, ended_line, ended_well, id_of, id_suffix, in_brackets, is_plain, is_printable, name, object_after};
+ghost use Rattle.tf_provider_progress.specs.Lines.{after, begin_word, begun_line, duration, end_word, ended_line, ended_well, id_of, id_suffix, in_brackets, in_still, is_plain, is_printable, name, object_after, still_head, still_id, still_id_of, still_line, still_word};
 
 use std::alloc::{AllocError, Global};
 use tf_provider_protocol::{Op, Reply, Request};
@@ -48,8 +48,29 @@ pub(crate) fn ended_line(
     Ok(line)
 }
 
+/// Returns the beginning of the line of a call that is still running: `sim_net.a: Still creating... [`. If there is a
+/// prior object, its id follows, as in `sim_net.a: Still destroying... [id=net-x, `.
+pub(crate) fn still_head(alloc: Global, request: &Request) -> Result<String, AllocError>
+    ensures { IfOk result (λ line. string_bytes line ≡ still_head (asked request.now)) }
+{
+    let mut line = String::new(alloc);
+    push_name(&mut line, request)?;
+    line.push_str(still_word(request.op))?;
+    push_still_id(&mut line, &request.prior)?;
+    Ok(line)
+}
+
+/// Appends the line of a call that is still running after these seconds: `sim_net.a: Still creating... [10s elapsed]`.
+pub(crate) fn push_still(line: &mut String, head: &str, seconds: u64) -> Result<(), AllocError>
+    ensures { OnOk result (string_bytes line.new ≡ string_bytes line.old ++ still_line head.now seconds) }
+{
+    line.push_str(head)?;
+    push_duration(line, seconds)?;
+    line.push_str(" elapsed]\n")
+}
+
 /// Appends the address, and the key of a deposed object.
-fn push_name(line: &mut String, request: &Request) -> Result<(), AllocError>
+pub(crate) fn push_name(line: &mut String, request: &Request) -> Result<(), AllocError>
     ensures { OnOk result (string_bytes line.new ≡ string_bytes line.old ++ name (asked request.now)) }
 {
     line.push_str(request.address.as_str())?;
@@ -79,8 +100,18 @@ fn end_word(op: Op) -> &'static str
     }
 }
 
+fn still_word(op: Op) -> &'static str
+    ensures { result.now ≡ still_word op }
+{
+    match op {
+        Op::Create => ": Still creating... [",
+        Op::Update => ": Still modifying... [",
+        Op::Destroy => ": Still destroying... [",
+    }
+}
+
 /// Returns whether a reply is what was asked for: an object for a create or an update, and no object for a destroy.
-fn ended_well(op: Op, reply: &Reply) -> bool
+pub(crate) fn ended_well(op: Op, reply: &Reply) -> bool
     ensures { result ≡ ended_well op (answered reply.now) }
 {
     match (reply, op) {
@@ -94,23 +125,27 @@ fn push_after(line: &mut String, seconds: Option<u64>) -> Result<(), AllocError>
     ensures { OnOk result (string_bytes line.new ≡ string_bytes line.old ++ after seconds) }
 {
     match seconds {
-        Some(seconds) => push_duration(line, seconds),
+        Some(seconds) => {
+            line.push_str(" after ")?;
+            push_duration(line, seconds)
+        }
         None => Ok(()),
     }
 }
 
-fn push_duration(line: &mut String, seconds: u64) -> Result<(), AllocError>
+/// Appends seconds, as in `5s`, `1m5s` and `2h1m5s`.
+pub(crate) fn push_duration(line: &mut String, seconds: u64) -> Result<(), AllocError>
     ensures { OnOk result (string_bytes line.new ≡ string_bytes line.old ++ duration seconds) }
 {
     let hours = seconds / 3600;
     let minutes = seconds / 60 % 60;
     let rest = seconds % 60;
     if seconds < 60 {
-        write!(line, " after {rest}s")
+        write!(line, "{rest}s")
     } else if seconds < 3600 {
-        write!(line, " after {minutes}m{rest}s")
+        write!(line, "{minutes}m{rest}s")
     } else {
-        write!(line, " after {hours}h{minutes}m{rest}s")
+        write!(line, "{hours}h{minutes}m{rest}s")
     }
 }
 
@@ -149,6 +184,36 @@ fn push_plain(line: &mut String, id: &str) -> Result<(), AllocError>
 {
     if is_plain(id) {
         write!(line, " [id={id}]")
+    } else {
+        Ok(())
+    }
+}
+
+/// Appends the id of an object and a comma, if there is one.
+fn push_still_id(line: &mut String, object: &Option<Value>) -> Result<(), AllocError>
+    ensures { OnOk result (string_bytes line.new ≡ string_bytes line.old ++ still_id (option_map tree_of object.now)) }
+{
+    match object {
+        Some(object) => push_still_id_of(line, object),
+        None => Ok(()),
+    }
+}
+
+fn push_still_id_of(line: &mut String, object: &Value) -> Result<(), AllocError>
+    ensures { OnOk result (string_bytes line.new ≡ string_bytes line.old ++ still_id_of (tree_of object.now)) }
+{
+    match object.get("id") {
+        Some(Value::Text(id)) => push_still_plain(line, id.as_str()),
+        _ => Ok(()),
+    }
+}
+
+/// Appends an id and a comma, if a terminal shows the id unchanged.
+fn push_still_plain(line: &mut String, id: &str) -> Result<(), AllocError>
+    ensures { OnOk result (string_bytes line.new ≡ string_bytes line.old ++ in_still id.now) }
+{
+    if is_plain(id) {
+        write!(line, "id={id}, ")
     } else {
         Ok(())
     }

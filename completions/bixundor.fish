@@ -1,0 +1,17 @@
+# Completions of bixundor for fish. Written by tools/options; don't edit.
+complete -c bixundor -f
+complete -c bixundor -n 'not __fish_seen_subcommand_from plan apply' -a plan -d 'Prints what an apply would do, and changes nothing'
+complete -c bixundor -n 'not __fish_seen_subcommand_from plan apply' -a apply -d 'Carries out the plan, and writes the state'
+complete -c bixundor -n 'not __fish_seen_subcommand_from plan apply try' -a try -d 'Runs a program unproved'
+complete -c bixundor -n 'not __fish_seen_subcommand_from plan apply try' -l version -d 'Prints the version'
+complete -c bixundor -n 'not __fish_seen_subcommand_from plan apply try' -l help -d 'Prints how to use it'
+complete -c bixundor -n '__fish_seen_subcommand_from plan apply' -l config -r -F -d 'The configuration'
+complete -c bixundor -n '__fish_seen_subcommand_from plan apply' -l vars -r -F -d 'The values of the variables'
+complete -c bixundor -n '__fish_seen_subcommand_from plan apply' -l state -r -F -d 'The state'
+complete -c bixundor -n '__fish_seen_subcommand_from plan apply' -l lineage -x -d 'The lineage of a new state'
+complete -c bixundor -n '__fish_seen_subcommand_from plan apply' -l parallelism -x -d 'How many workers, 1 to 64'
+complete -c bixundor -n '__fish_seen_subcommand_from plan apply' -l stop-after -x -d 'After how many calls to stop, 0 to 2000'
+complete -c bixundor -n '__fish_seen_subcommand_from plan apply' -l explain -d 'Shows where an error is and what is wrong, even if standard error is not a terminal'
+complete -c bixundor -n '__fish_seen_subcommand_from plan' -l graph -x -a 'dot' -d 'Prints the order of the actions for Graphviz in place of the plan'
+complete -c bixundor -n '__fish_seen_subcommand_from apply' -l progress -d 'Tells as calls of providers begin and end, also where standard error is no terminal'
+complete -c bixundor -n '__fish_seen_subcommand_from plan apply' -l help -d 'Prints the options'
