@@ -16,7 +16,7 @@ use tf_cli_program::carry_out_logged;
 use tf_explain::Explained;
 use tf_provider::Provider;
 use tf_provider_local::LocalFile;
-use tf_provider_progress::Progress;
+use tf_provider_progress::{Progress, StatusLine};
 use tf_provider_sim::Sim;
 
 /// Recovers an unfinished apply, if there is one, then applies, and returns the program's status.
@@ -65,9 +65,10 @@ fn apply_by<T: Threads + Wait + Sync, O: Write, E: Write>(
     let sim = control.wrap(alloc, Sim::new(alloc)?)?;
     let reserved = place.own_files(alloc, &given.options)?;
     let local_file = control.wrap(alloc, LocalFile::with_reserved(alloc, *rt, reserved)?)?;
+    let status = status_line(rt)?;
     let mut providers: Vec<Box<dyn Provider + Sync>> = Vec::new(alloc);
-    providers.push(Box::new(alloc, with_progress(rt, given, sim))?)?;
-    providers.push(Box::new(alloc, with_progress(rt, given, local_file))?)?;
+    providers.push(Box::new(alloc, with_progress(rt, given, share(&status)?, sim))?)?;
+    providers.push(Box::new(alloc, with_progress(rt, given, status, local_file))?)?;
     Ok(carry_out_by(
         rt, threads, place, file, &control, given, &providers, out, err,
     ))
@@ -117,6 +118,7 @@ fn carry_out_by<T: Threads + Wait + Sync, O: Write, E: Write>(
 fn with_progress<P: Provider>(
     rt: &HostRuntime,
     given: &ProgramInput,
+    status: Option<Arc<StatusLine>>,
     provider: P,
 ) -> Progress<P, Stderr, HostRuntime> {
     let err = rt.stderr();
@@ -125,5 +127,23 @@ fn with_progress<P: Provider>(
     } else {
         None
     };
-    Progress::new(rt.alloc(), screen, *rt, provider)
+    Progress::new(rt.alloc(), screen, *rt, provider).with_status(status)
+}
+
+/// Returns a status line for the providers of an apply, if standard error is a terminal.
+fn status_line(rt: &HostRuntime) -> Result<Option<Arc<StatusLine>>, AllocError> {
+    if rt.stderr().is_terminal() {
+        let status = Arc::new(rt.alloc(), StatusLine::new(rt.alloc()))?;
+        Ok(Some(status))
+    } else {
+        Ok(None)
+    }
+}
+
+/// Shares a status line, if there is one.
+fn share(status: &Option<Arc<StatusLine>>) -> Result<Option<Arc<StatusLine>>, AllocError> {
+    match status {
+        Some(status) => Ok(Some(Arc::try_clone(status)?)),
+        None => Ok(None),
+    }
 }
