@@ -16,7 +16,7 @@ complete -c bixundor -n '__fish_seen_subcommand_from plan apply' -l diff -d 'Pri
 complete -c bixundor -n '__fish_seen_subcommand_from plan' -l graph -x -a 'dot' -d 'Prints the order of the actions for Graphviz in place of the plan'
 complete -c bixundor -n '__fish_seen_subcommand_from plan' -l json -d 'Prints the plan as JSON, in the form of Terraform'\''s plan representation'
 complete -c bixundor -n '__fish_seen_subcommand_from plan' -l detailed-exitcode -d 'Exits with 2 if the plan has changes'
-complete -c bixundor -n '__fish_seen_subcommand_from apply' -l progress -d 'Tells as calls of providers begin and end, also where standard error is no terminal'
+complete -c bixundor -n '__fish_seen_subcommand_from apply' -l progress -d 'Prints a line as each provider call begins and ends, even if standard error is not a terminal'
 complete -c bixundor -n '__fish_seen_subcommand_from apply' -l auto-approve -d 'Doesn'\''t ask for approval of the plan at a terminal'
 complete -c bixundor -n '__fish_seen_subcommand_from apply' -l stop-file -r -F -d 'Begins no further call once this file exists'
 complete -c bixundor -n '__fish_seen_subcommand_from plan apply' -l help -d 'Prints the options'

@@ -141,7 +141,7 @@ fn progress_option<'a>(alloc: Global) -> Arg<'a>
     flag_option(
         alloc,
         "progress",
-        "Tells as calls of providers begin and end, also where standard error is no terminal",
+        "Prints a line as each provider call begins and ends, even if standard error is not a terminal",
     )
 }
 
