@@ -15,7 +15,7 @@ returns-then-not-approves g c = inl (
       colours = c.colours.result;
       plan = plan_of c.args.planned.now;
       planned = c.requires.planned;
-      shows = shown_is c.args.given.now.options.diff (option_map string_bytes c.in-Ok-2.diff) (string_bytes c.in-Ok.text) _ _ c.in-Ok-2.ensures.diff c.in-Ok.ensures.shown;
+      shows = shown_is c.args.given.now.options.diff (option_map string_bytes c.in-Ok-diff_of.diff) (string_bytes c.in-Ok.text) _ _ c.in-Ok-diff_of.ensures.diff c.in-Ok.ensures.shown;
     }),
     c.save-printed.ensures.part,
   ),
