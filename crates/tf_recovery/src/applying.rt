@@ -5,18 +5,18 @@ use crate::explaining::{explains, sources};
 use crate::recovering::recover;
 use std::alloc::AllocError;
 use std::fs::File;
-use std::io;
 use std::io::{IsTerminal, Stderr, Write};
 use std::process::ExitCode;
 use std::sync::{Arc, Wait};
 use std::thread::Threads;
+use std::{env, io};
 use tf_cli_files::{CallControl, Place, ProgramInput, Seen, StopFile, hold};
 use tf_cli_options::Options;
 use tf_cli_program::carry_out_logged;
 use tf_explain::Explained;
 use tf_provider::Provider;
 use tf_provider_local::LocalFile;
-use tf_provider_progress::Progress;
+use tf_provider_progress::{Progress, StatusLine};
 use tf_provider_sim::Sim;
 
 /// Recovers an unfinished apply, if there is one, then applies, and returns the program's status.
@@ -65,9 +65,10 @@ fn apply_by<T: Threads + Wait + Sync, O: Write, E: Write>(
     let sim = control.wrap(alloc, Sim::new(alloc)?)?;
     let reserved = place.own_files(alloc, &given.options)?;
     let local_file = control.wrap(alloc, LocalFile::with_reserved(alloc, *rt, reserved)?)?;
+    let status = Arc::new(alloc, StatusLine::new(alloc))?;
     let mut providers: Vec<Box<dyn Provider + Sync>> = Vec::new(alloc);
-    providers.push(Box::new(alloc, with_progress(rt, given, sim))?)?;
-    providers.push(Box::new(alloc, with_progress(rt, given, local_file))?)?;
+    providers.push(Box::new(alloc, with_progress(rt, given, &status, sim)?)?)?;
+    providers.push(Box::new(alloc, with_progress(rt, given, &status, local_file)?)?)?;
     Ok(carry_out_by(
         rt, threads, place, file, &control, given, &providers, out, err,
     ))
@@ -113,17 +114,33 @@ fn carry_out_by<T: Threads + Wait + Sync, O: Write, E: Write>(
     )
 }
 
-/// Wraps a provider so that its calls are printed on standard error, if that is a terminal or `--progress` is given.
+/// Wraps a provider so that its calls are printed on standard error, if that is a terminal or `--progress` is given. A terminal
+/// has a status line.
 fn with_progress<P: Provider>(
     rt: &HostRuntime,
     given: &ProgramInput,
+    status: &Arc<StatusLine>,
     provider: P,
-) -> Progress<P, Stderr, HostRuntime> {
+) -> Result<Progress<P, Stderr, HostRuntime>, AllocError> {
     let err = rt.stderr();
-    let screen = if given.options.progress || err.is_terminal() {
+    let is_terminal = err.is_terminal();
+    let screen = if given.options.progress || is_terminal {
         Some(err)
     } else {
         None
     };
-    Progress::new(rt.alloc(), screen, *rt, provider)
+    let status = if is_terminal && !is_dumb(rt) {
+        Some(Arc::try_clone(status)?)
+    } else {
+        None
+    };
+    Ok(Progress::new(rt.alloc(), screen, *rt, provider).with_status(status))
+}
+
+/// Returns whether the terminal can't move its cursor, by the environment variable `TERM`.
+fn is_dumb(rt: &HostRuntime) -> bool {
+    match env::var(rt, "TERM") {
+        Ok(name) => name.as_str() == "dumb",
+        Err(_) => false,
+    }
 }
