@@ -1,7 +1,7 @@
 //! The work of `apply`.
 
 use crate::approving::AtTerminal;
-use crate::explaining::{explains, sources};
+use crate::explaining::{explains, sources, warn};
 use crate::recovering::recover;
 use std::alloc::AllocError;
 use std::fs::File;
@@ -98,6 +98,7 @@ fn carry_out_by<T: Threads + Wait + Sync, O: Write, E: Write>(
     err: &mut E,
 ) -> ExitCode {
     let files = sources(given, place, providers);
+    warn(rt, given, files, err);
     let mut err = Explained::new(rt.alloc(), err, explains(rt, given), files);
     carry_out_logged(
         rt,
