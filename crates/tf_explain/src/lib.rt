@@ -15,11 +15,14 @@ pub mod line;
 mod near;
 mod page;
 pub mod positions;
+pub mod repeated;
 mod shown;
 pub mod sources;
 pub mod span;
 mod tokens;
+mod warned;
 
 pub use causes::explanation;
 pub use explained::Explained;
 pub use sources::{SourceFile, Sources};
+pub use warned::warnings;

@@ -74,6 +74,16 @@ impl Page {
         }
     }
 
+    /// Adds the first line of a warning, from its parts.
+    ///
+    /// # Errors
+    ///
+    /// Fails only if memory runs out.
+    pub(crate) fn warn(&mut self, parts: &[&str]) -> Result<(), AllocError> {
+        self.text.push_str("warning: ")?;
+        self.push_parts(parts)
+    }
+
     /// Adds a sentence, from its parts.
     ///
     /// # Errors
@@ -81,6 +91,11 @@ impl Page {
     /// Fails only if memory runs out.
     pub(crate) fn say(&mut self, parts: &[&str]) -> Result<(), AllocError> {
         self.text.push_str("  ")?;
+        self.push_parts(parts)
+    }
+
+    /// Adds parts of a line, and its end.
+    fn push_parts(&mut self, parts: &[&str]) -> Result<(), AllocError> {
         for part in parts {
             push_shown(&mut self.text, *part)?;
         }

@@ -1,15 +1,15 @@
 //! The work of `apply`.
 
 use crate::approving::AtTerminal;
-use crate::explaining::{explains, sources};
+use crate::explaining::{explains, sources, warn};
 use crate::recovering::recover;
 use std::alloc::AllocError;
 use std::fs::File;
-use std::io;
 use std::io::{IsTerminal, Stderr, Write};
 use std::process::ExitCode;
 use std::sync::{Arc, Wait};
 use std::thread::Threads;
+use std::{env, io};
 use tf_cli_files::{CallControl, Place, ProgramInput, Seen, StopFile, hold};
 use tf_cli_options::Options;
 use tf_cli_program::carry_out_logged;
@@ -65,10 +65,10 @@ fn apply_by<T: Threads + Wait + Sync, O: Write, E: Write>(
     let sim = control.wrap(alloc, Sim::new(alloc)?)?;
     let reserved = place.own_files(alloc, &given.options)?;
     let local_file = control.wrap(alloc, LocalFile::with_reserved(alloc, *rt, reserved)?)?;
-    let status = status_line(rt)?;
+    let status = Arc::new(alloc, StatusLine::new(alloc))?;
     let mut providers: Vec<Box<dyn Provider + Sync>> = Vec::new(alloc);
-    providers.push(Box::new(alloc, with_progress(rt, given, share(&status)?, sim))?)?;
-    providers.push(Box::new(alloc, with_progress(rt, given, status, local_file))?)?;
+    providers.push(Box::new(alloc, with_progress(rt, given, &status, sim)?)?)?;
+    providers.push(Box::new(alloc, with_progress(rt, given, &status, local_file)?)?)?;
     Ok(carry_out_by(
         rt, threads, place, file, &control, given, &providers, out, err,
     ))
@@ -98,6 +98,7 @@ fn carry_out_by<T: Threads + Wait + Sync, O: Write, E: Write>(
     err: &mut E,
 ) -> ExitCode {
     let files = sources(given, place, providers);
+    warn(rt, given, files, err);
     let mut err = Explained::new(rt.alloc(), err, explains(rt, given), files);
     carry_out_logged(
         rt,
@@ -114,36 +115,33 @@ fn carry_out_by<T: Threads + Wait + Sync, O: Write, E: Write>(
     )
 }
 
-/// Wraps a provider so that its calls are printed on standard error, if that is a terminal or `--progress` is given.
+/// Wraps a provider so that its calls are printed on standard error, if that is a terminal or `--progress` is given. A terminal
+/// has a status line.
 fn with_progress<P: Provider>(
     rt: &HostRuntime,
     given: &ProgramInput,
-    status: Option<Arc<StatusLine>>,
+    status: &Arc<StatusLine>,
     provider: P,
-) -> Progress<P, Stderr, HostRuntime> {
+) -> Result<Progress<P, Stderr, HostRuntime>, AllocError> {
     let err = rt.stderr();
-    let screen = if given.options.progress || err.is_terminal() {
+    let is_terminal = err.is_terminal();
+    let screen = if given.options.progress || is_terminal {
         Some(err)
     } else {
         None
     };
-    Progress::new(rt.alloc(), screen, *rt, provider).with_status(status)
-}
-
-/// Returns a status line for the providers of an apply, if standard error is a terminal.
-fn status_line(rt: &HostRuntime) -> Result<Option<Arc<StatusLine>>, AllocError> {
-    if rt.stderr().is_terminal() {
-        let status = Arc::new(rt.alloc(), StatusLine::new(rt.alloc()))?;
-        Ok(Some(status))
+    let status = if is_terminal && !is_dumb(rt) {
+        Some(Arc::try_clone(status)?)
     } else {
-        Ok(None)
-    }
+        None
+    };
+    Ok(Progress::new(rt.alloc(), screen, *rt, provider).with_status(status))
 }
 
-/// Shares a status line, if there is one.
-fn share(status: &Option<Arc<StatusLine>>) -> Result<Option<Arc<StatusLine>>, AllocError> {
-    match status {
-        Some(status) => Ok(Some(Arc::try_clone(status)?)),
-        None => Ok(None),
+/// Returns whether the terminal can't move its cursor, by the environment variable `TERM`.
+fn is_dumb(rt: &HostRuntime) -> bool {
+    match env::var(rt, "TERM") {
+        Ok(name) => name.as_str() == "dumb",
+        Err(_) => false,
     }
 }

@@ -1,8 +1,8 @@
 //! Explained errors.
 
-use std::io::IsTerminal;
+use std::io::{IsTerminal, Write};
 use tf_cli_files::{Place, ProgramInput};
-use tf_explain::{SourceFile, Sources};
+use tf_explain::{SourceFile, Sources, warnings};
 use tf_provider::Provider;
 
 /// Returns whether errors are explained: if that is asked for, or if standard error is a terminal.
@@ -24,6 +24,20 @@ pub(crate) fn sources<'a>(
         vars: file(given.options.vars.as_ref(), given.vars_bytes()),
         state: file(Some(&place.state), given.state_bytes()),
         providers,
+    }
+}
+
+/// Prints the warnings on the files that a program read and on its environment, if errors are explained.
+pub(crate) fn warn<E: Write>(
+    rt: &HostRuntime,
+    given: &ProgramInput,
+    files: Sources<'_>,
+    err: &mut E,
+) {
+    if explains(rt, given) {
+        if let Ok(text) = warnings(rt.alloc(), rt, files) {
+            let _ = err.write_all(text.as_bytes());
+        }
     }
 }
 

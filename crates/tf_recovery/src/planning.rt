@@ -1,7 +1,7 @@
 //! The work of `plan`.
 
 use crate::approving::colours;
-use crate::explaining::{explains, sources};
+use crate::explaining::{explains, sources, warn};
 use crate::previewing::preview;
 use std::io;
 use std::io::Write;
@@ -76,6 +76,7 @@ fn print_given<O: Write, E: Write>(
     providers.push(Box::new(rt.alloc(), Sim::new(rt.alloc())?)?)?;
     providers.push(Box::new(rt.alloc(), LocalFile::new(rt.alloc(), *rt)?)?)?;
     let files = sources(given, place, providers.as_slice());
+    warn(rt, given, files, err);
     let mut err = Explained::new(rt.alloc(), err, explains(rt, given), files);
     let colours = colours(rt);
     let status = print_plan(rt.alloc(), given, colours, &providers, out, &mut err);
