@@ -16,7 +16,7 @@ _bixundor() {
     done
     COMPREPLY=()
     case $prev in
-        --config|--vars|--state)
+        --config|--vars|--state|--stop-file)
             compopt -o filenames 2>/dev/null
             COMPREPLY=($(compgen -f -- "$cur"))
             return
@@ -25,13 +25,13 @@ _bixundor() {
             COMPREPLY=($(compgen -W "dot" -- "$cur"))
             return
             ;;
-        --lineage|--parallelism|--stop-after)
+        --lineage|--parallelism|--stop-after|--provider)
             return
             ;;
     esac
     case $program in
-        plan) options="--config --vars --state --lineage --parallelism --stop-after --explain --graph --help" ;;
-        apply) options="--config --vars --state --lineage --parallelism --stop-after --explain --progress --help" ;;
+        plan) options="--config --vars --state --lineage --parallelism --stop-after --explain --diff --provider --graph --json --detailed-exitcode --help" ;;
+        apply) options="--config --vars --state --lineage --parallelism --stop-after --explain --diff --provider --progress --auto-approve --stop-file --help" ;;
         *) options="plan apply try --version --help" ;;
     esac
     if [[ $program == "" && ${COMP_WORDS[1]} == try && $COMP_CWORD -gt 1 ]]; then
