@@ -25,13 +25,13 @@ _bixundor() {
             COMPREPLY=($(compgen -W "dot" -- "$cur"))
             return
             ;;
-        --lineage|--parallelism|--stop-after)
+        --lineage|--parallelism|--stop-after|--provider)
             return
             ;;
     esac
     case $program in
-        plan) options="--config --vars --state --lineage --parallelism --stop-after --explain --diff --graph --json --detailed-exitcode --help" ;;
-        apply) options="--config --vars --state --lineage --parallelism --stop-after --explain --diff --progress --auto-approve --stop-file --help" ;;
+        plan) options="--config --vars --state --lineage --parallelism --stop-after --explain --diff --provider --graph --json --detailed-exitcode --help" ;;
+        apply) options="--config --vars --state --lineage --parallelism --stop-after --explain --diff --provider --progress --auto-approve --stop-file --help" ;;
         *) options="plan apply try --version --help" ;;
     esac
     if [[ $program == "" && ${COMP_WORDS[1]} == try && $COMP_CWORD -gt 1 ]]; then

@@ -13,6 +13,7 @@ complete -c bixundor -n '__fish_seen_subcommand_from plan apply' -l parallelism 
 complete -c bixundor -n '__fish_seen_subcommand_from plan apply' -l stop-after -x -d 'After how many calls to stop, 0 to 2000'
 complete -c bixundor -n '__fish_seen_subcommand_from plan apply' -l explain -d 'Shows where an error is and what is wrong, even if standard error is not a terminal'
 complete -c bixundor -n '__fish_seen_subcommand_from plan apply' -l diff -d 'Prints the plan with the old values next to the new ones'
+complete -c bixundor -n '__fish_seen_subcommand_from plan apply' -l provider -x -d 'The folder of a provider outside the program; may be given several times'
 complete -c bixundor -n '__fish_seen_subcommand_from plan' -l graph -x -a 'dot' -d 'Prints the order of the actions for Graphviz in place of the plan'
 complete -c bixundor -n '__fish_seen_subcommand_from plan' -l json -d 'Prints the plan as JSON, in the form of Terraform'\''s plan representation'
 complete -c bixundor -n '__fish_seen_subcommand_from plan' -l detailed-exitcode -d 'Exits with 2 if the plan has changes'

@@ -26,11 +26,12 @@ pub use log_sink::LogSink;
 pub use past::Past;
 pub use place::Place;
 pub use program::run;
+pub use reading::tell_unread;
 pub use replacing::{InPlace, NotInPlace, keep_state, sync_folder};
 pub use replaying::both_replayed;
 pub use seeing::{Seen, hold, see};
 pub use stop_file::StopFile;
 pub use stopping::Stopping;
 pub use telling::{
-    tell_lost, tell_misfit, tell_no_log, tell_no_memory, tell_past, tell_unrecovered,
+    tell_in_flight, tell_lost, tell_misfit, tell_no_log, tell_no_memory, tell_past, tell_unrecovered,
 };

@@ -116,7 +116,8 @@ pub fn tell_past<E: Write>(alloc: Global, past: &Past, err: &mut E) {
     }
 }
 
-fn tell_in_flight<E: Write>(alloc: Global, request: &Request, err: &mut E) {
+/// Prints that a request was begun and has no recorded result.
+pub fn tell_in_flight<E: Write>(alloc: Global, request: &Request, err: &mut E) {
     let verb = verb_text(&Some(request.op));
     let _ = writeln!(
         err,

@@ -2,7 +2,7 @@
 use Rattle.std.specs.Prelude.{◌≡◌, [], ◌∷◌, List, map, Some, codes}
 use Rattle.std.specs.Borrow.{Bor}
 use Rattle.clap.specs.Words.{App, Rule, Text, new_app, new_rule, with_rule}
-use Rattle.clap.specs.declared.builder.action.ArgAction.TheVariants.{SetTrue}
+use Rattle.clap.specs.declared.builder.action.ArgAction.TheVariants.{Append, SetTrue}
 use Rattle.clap.specs.declared.builder.value_parser.ValueParser.TheVariants as vp
 use Rattle.tf_cli_options.specs.declared.words.Program.{Program}
 use Rattle.tf_cli_options.specs.declared.words.Program.TheVariants.{Plan, Apply}
@@ -39,12 +39,16 @@ graph_rule forms = record (option_rule (codes "graph")) { parser = Some (vp.Name
 abbrev pub flag_rule : Text → Rule
 flag_rule name = record (new_rule name) { long = Some name; action = Some SetTrue }
 
+-- an option `--provider VALUE`, which may be given several times
+abbrev pub provider_rule : Rule
+provider_rule = record (option_rule (codes "provider")) { action = Some Append }
+
 -- The options of both programs: the files of the configuration, of the variables' values and of the state, the
--- lineage of a new state, the number of workers, after how many calls to stop, whether errors are explained, and whether a plan is
--- printed with the old values.
+-- lineage of a new state, the number of workers, after how many calls to stop, whether errors are explained, whether a plan is
+-- printed with the old values, and the folders of providers outside the program.
 unfoldable pub shared_app : App
 shared_app =
-    with_rule (with_rule (with_rule (with_rule (with_rule (with_rule (with_rule (with_rule (new_app (codes "bixundor"))
+    with_rule (with_rule (with_rule (with_rule (with_rule (with_rule (with_rule (with_rule (with_rule (new_app (codes "bixundor"))
     (default_rule (codes "config") (codes "main.tf.json")))
     (option_rule (codes "vars")))
     (default_rule (codes "state") (codes "terraform.tfstate")))
@@ -52,7 +56,8 @@ shared_app =
     workers_rule)
     stop_rule)
     (flag_rule (codes "explain")))
-    (flag_rule (codes "diff"))
+    (flag_rule (codes "diff")))
+    provider_rule
 
 -- `plan` also draws a graph, prints JSON, and says by its status whether there are changes
 abbrev pub plan_app : Forms → App

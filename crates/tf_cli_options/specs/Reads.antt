@@ -1,8 +1,8 @@
 -- The options, as read from what `clap` finds in the words.
-use Rattle.std.specs.Prelude.{◌≡◌, ℕ, Bool, true, false, if◌then◌else◌, List, Option, Some, None, MatchOption, codes, option_and_then, option_map, unwrap_or, string_bytes}
+use Rattle.std.specs.Prelude.{◌≡◌, ℕ, Bool, true, false, if◌then◌else◌, List, [], map, Option, Some, None, MatchOption, codes, option_and_then, option_map, unwrap_or, string_bytes}
 use Rattle.std.specs.Str.{bytes_eq}
 use Rattle.std.specs.Str.Parse.{digits_value, without_leading_plus}
-use Rattle.clap.specs.Words.{IsUnsignedIn, Row, Text, first_of, one_of}
+use Rattle.clap.specs.Words.{IsUnsignedIn, Row, Text, all_of, first_of, one_of}
 use Rattle.tf_cli_options.specs.declared.words.GraphForm.{GraphForm}
 use Rattle.tf_cli_options.specs.declared.words.GraphForm.TheVariants.{Dot}
 use Rattle.tf_cli_options.specs.declared.words.Options.{Options}
@@ -29,6 +29,10 @@ form_named name = if bytes_eq name (codes "dot") then Some Dot else None
 abbrev pub IsFlag : Option Text → Bool → Type 0
 IsFlag given set = MatchOption given (set ≡ false) (λ text. (text ≡ codes "true" → set ≡ true) × (text ≡ codes "false" → set ≡ false))
 
+-- the folders that are given of providers outside the program
+abbrev pub providers_given : List Row → List Text
+providers_given rows = unwrap_or (all_of (codes "provider") rows) []
+
 -- Each option has its given value, or its default. The files of the variables' values and of a stop have no default.
 pub record Reads (o : Options) (rows : List Row) : Type 0 where
   pub config : string_bytes o.config ≡ given_or (codes "config") (codes "main.tf.json") rows
@@ -45,3 +49,4 @@ pub record Reads (o : Options) (rows : List Row) : Type 0 where
   pub stop_file : option_map (λ s. string_bytes s) o.stop_file ≡ first_of (codes "stop-file") rows
   pub explain : IsFlag (one_of (codes "explain") rows) o.explain
   pub diff : IsFlag (one_of (codes "diff") rows) o.diff
+  pub providers : map (λ t. string_bytes t) o.providers.items ≡ providers_given rows

@@ -2,6 +2,7 @@
 #![tactic(auto)]
 
 mod asking;
+mod providing;
 mod reading;
 pub mod words;
 

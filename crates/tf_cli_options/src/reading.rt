@@ -2,9 +2,10 @@
 
 ghost use Rattle.std.specs.Prelude.{◌≡◌, ◌≤◌, false, IfOk, IfSome, codes, map, option_and_then, option_map, string_bytes};
 ghost use Rattle.clap.specs.Words.{FailsBy, app_of, fault_of, first_of, found_of, matches_of, one_of, rows_of, rule_of};
-ghost use Rattle.tf_cli_options.specs.Command.{apply_app, AreForms, default_rule, Forms, flag_rule, graph_rule, option_rule, options_app, plan_app, shared_app, stop_rule, workers_rule};
+ghost use Rattle.tf_cli_options.specs.Command.{apply_app, AreForms, default_rule, Forms, flag_rule, graph_rule, option_rule, options_app, plan_app, provider_rule, shared_app, stop_rule, workers_rule};
 ghost use Rattle.tf_cli_options.specs.Reads.{IsFlag, IsStop, IsWorkers, Reads, form_named, given_or};
 
+use crate::providing::providers_in;
 use crate::words::{GraphForm, Options, Program};
 use clap::{Arg, ArgAction, ArgMatches, Command, Error};
 use std::alloc::{AllocError, Global};
@@ -118,7 +119,8 @@ fn shared_command<'a>(alloc: Global) -> Result<Command<'a>, AllocError>
             alloc,
             "diff",
             "Prints the plan with the old values next to the new ones",
-        ))
+        ))?
+        .arg(provider_option(alloc))
 }
 
 fn graph_option<'a>(alloc: Global, forms: &'a [&'a str]) -> Arg<'a>
@@ -164,6 +166,19 @@ fn flag_option<'a>(alloc: Global, name: &'a str, help: &'a str) -> Arg<'a>
         .long(name)
         .help(help)
         .action(ArgAction::SetTrue)
+}
+
+fn provider_option<'a>(alloc: Global) -> Arg<'a>
+    ensures rule { rule_of result ≡ provider_rule }
+    ensures local { result.global ≡ false }
+{
+    option(
+        alloc,
+        "provider",
+        "DIR",
+        "The folder of a provider outside the program; may be given several times",
+    )
+    .action(ArgAction::Append)
 }
 
 fn workers_option<'a>(alloc: Global) -> Arg<'a>
@@ -231,6 +246,7 @@ fn options_in(alloc: Global, matches: &ArgMatches<'_>) -> Result<Options, AllocE
         stop_file: value_of(alloc, matches, "stop-file")?,
         explain: flag_in(matches, "explain"),
         diff: flag_in(matches, "diff"),
+        providers: providers_in(alloc, matches)?,
     })
 }
 

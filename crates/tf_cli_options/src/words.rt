@@ -10,6 +10,7 @@
 //! | `--stop-after N` | after how many calls to stop, 0 to 2,000 | doesn't stop |
 //! | `--explain` | show where an error is and what is wrong, even if standard error is not a terminal | only at a terminal |
 //! | `--diff` | print the plan with the old values next to the new ones | only the new ones |
+//! | `--provider DIR` | the folder of a provider outside the program; may be given several times | none |
 //! | `--graph dot` | `plan` only: print the order for Graphviz, in place of the plan's text | the text |
 //! | `--json` | `plan` only: print the plan as JSON, in the form of Terraform's plan representation | the text |
 //! | `--detailed-exitcode` | `plan` only: exit with 2 if the plan has changes | 0 |
@@ -64,4 +65,6 @@ pub struct Options {
     pub explain: bool,
     /// Whether to print the plan with the old values next to the new ones.
     pub diff: bool,
+    /// The folders of the providers outside the program, in the order in which they are asked for a type.
+    pub providers: Vec<String>,
 }

@@ -17,6 +17,6 @@ mod work;
 pub use applying::{carry_out, carry_out_logged};
 pub use approval::{Approval, Unasked};
 pub use laws::{what_a_cut_log_leaves_is_recovered, what_is_recovered_is_applied};
-pub use logging::{finish_recovery, preview_recovery};
+pub use logging::{empty_log, finish_recovery, preview_recovery, start as start_log};
 pub use taking::Recovered;
 pub use work::print_plan;

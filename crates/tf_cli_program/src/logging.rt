@@ -121,7 +121,7 @@ fn take_state(given: &mut ProgramInput, settled: Settled)
 }
 
 /// Empties the log, which isn't needed any more.
-pub(crate) fn empty_log<F: LogFile, E: Write>(
+pub fn empty_log<F: LogFile, E: Write>(
     file: &F,
     why: &Settled,
     place: &Place,
@@ -135,8 +135,8 @@ pub(crate) fn empty_log<F: LogFile, E: Write>(
     }
 }
 
-/// Starts the log with what was given. Texts that aren't UTF-8 are refused before any call, so they aren't logged.
-pub(crate) fn start<R: Files + AllocGlobal, S: Sink, E: Write>(
+/// Starts the log with what was given, before any call. Texts that aren't UTF-8 are refused before any call, so they aren't logged.
+pub fn start<R: Files + AllocGlobal, S: Sink, E: Write>(
     rt: &R,
     place: &Place,
     log: &OpenLog<S>,

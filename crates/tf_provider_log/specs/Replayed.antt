@@ -44,6 +44,11 @@ abbrev pub ends : Asked → LogEntryView → Bool
 ends r (replied q a) = is_same q r
 ends r (begun q) = false
 
+-- an entry says that the same request is begun or answered
+abbrev pub is_about : Asked → LogEntryView → Bool
+is_about r (replied q a) = is_same q r
+is_about r (begun q) = is_same q r
+
 -- the request that an entry says is begun, if no entry of a log says that it has ended
 abbrev pub open_of : List LogEntryView → LogEntryView → Option Asked
 open_of es (begun r) = if list_any (ends r) es then None else Some r

@@ -1,15 +1,17 @@
 //! Copies of requests and replies.
 
-ghost use Rattle.std.specs.Prelude.{◌≡◌, IfOk, option_map, string_bytes};
+ghost use Rattle.std.specs.Prelude.{◌≡◌, IfOk, map, option_map, string_bytes};
+ghost use Rattle.tf_provider_log.specs.LogEntry.{log_entry_of};
 ghost use Rattle.tf_provider_protocol.specs.Meaning.{asked, answered};
 ghost use Rattle.tf_value_data.specs.Tree.{tree_of};
 
+use crate::entry::LogEntry;
 use std::alloc::{AllocError, Global};
 use tf_provider_protocol::{Reply, Request};
 use tf_value_data::{Value, copy};
 
 /// Copies a request.
-pub(crate) fn copy_request(alloc: Global, request: &Request) -> Result<Request, AllocError>
+pub fn copy_request(alloc: Global, request: &Request) -> Result<Request, AllocError>
     ensures { IfOk result (λ r. asked r ≡ asked request.now) }
 {
     let address = String::from_str(alloc, request.address.as_str())?;
@@ -43,6 +45,35 @@ pub(crate) fn copy_reply(alloc: Global, reply: &Reply) -> Result<Reply, AllocErr
             Ok(Reply::Failed { message, object })
         }
         Reply::NoMemory => Ok(Reply::NoMemory),
+    }
+}
+
+/// Copies the entries of a log.
+pub fn copy_entries(alloc: Global, entries: &[LogEntry]) -> Result<Vec<LogEntry>, AllocError>
+    ensures { IfOk result (λ copies. map log_entry_of copies.items ≡ map log_entry_of entries.now) }
+{
+    let mut copies = Vec::with_capacity(alloc, entries.len())?;
+    for entry in entries {
+        let copy = copy_entry(alloc, entry)?;
+        copies.push(copy)?;
+    }
+    Ok(copies)
+}
+
+/// Copies an entry.
+fn copy_entry(alloc: Global, entry: &LogEntry) -> Result<LogEntry, AllocError>
+    ensures { IfOk result (λ copy. log_entry_of copy ≡ log_entry_of entry.now) }
+{
+    match entry {
+        LogEntry::Begun(request) => {
+            let request = copy_request(alloc, request)?;
+            Ok(LogEntry::Begun(request))
+        }
+        LogEntry::Answered(request, reply) => {
+            let request = copy_request(alloc, request)?;
+            let reply = copy_reply(alloc, reply)?;
+            Ok(LogEntry::Answered(request, reply))
+        }
     }
 }
 

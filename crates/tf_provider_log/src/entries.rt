@@ -3,7 +3,7 @@
 ghost use Rattle.std.specs.List.{list_any};
 ghost use Rattle.std.specs.Prelude.{◌≡◌, IfOk, filter, not, map, option_map};
 ghost use Rattle.tf_provider_log.specs.LogEntry.{log_entry_of};
-ghost use Rattle.tf_provider_log.specs.Replayed.{answer_count, ends, has_answer, has_its_type, in_flight, open_of, own_entries, type_in};
+ghost use Rattle.tf_provider_log.specs.Replayed.{answer_count, ends, has_answer, has_its_type, is_about, in_flight, open_of, own_entries, type_in};
 ghost use Rattle.tf_provider_protocol.specs.Meaning.{asked};
 
 use crate::copies::copy_request;
@@ -120,6 +120,27 @@ fn ends(request: &Request, entry: &LogEntry) -> bool
     match entry {
         LogEntry::Begun(_) => false,
         LogEntry::Answered(asked, _) => is_same(asked, request),
+    }
+}
+
+/// Returns whether an entry says that the same request is begun or answered.
+pub fn is_begun(entries: &[LogEntry], request: &Request) -> bool
+    ensures { result ≡ list_any (is_about (asked request.now)) (map log_entry_of entries.now) }
+{
+    for entry in entries {
+        if is_about(request, entry) {
+            return true;
+        }
+    }
+    false
+}
+
+/// Returns whether an entry is about the same request.
+fn is_about(request: &Request, entry: &LogEntry) -> bool
+    ensures { result ≡ is_about (asked request.now) (log_entry_of entry.now) }
+{
+    match entry {
+        LogEntry::Begun(asked) | LogEntry::Answered(asked, _) => is_same(asked, request),
     }
 }
 

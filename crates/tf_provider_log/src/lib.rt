@@ -17,6 +17,7 @@ mod laws;
 mod lines;
 mod logged;
 mod open_log;
+mod outside;
 mod parts;
 mod reading;
 mod replay_laws;
@@ -26,12 +27,14 @@ mod shared;
 mod sink;
 mod writing;
 
-pub use entries::{answer_count, in_flight, split};
+pub use copies::{copy_entries, copy_request};
+pub use entries::{answer_count, in_flight, is_begun, split};
 pub use entry::{Header, Log, LogEntry};
 pub use fault::{LineFault, LogFault, Unwritten};
 pub use laws::beginnings_are_read;
 pub use logged::Logged;
 pub use open_log::{NotStarted, OpenLog};
+pub use outside::Announced;
 pub use reading::read_log;
 pub use replay_laws::{
     beginnings_of_logs_are_true, replayed_providers_are_themselves, same_requests_are_one,

@@ -53,7 +53,7 @@ impl Telling for Header {
 /// and no request is begun after that.
 #[derive(Drop)]
 pub struct OpenLog<S: Sink> {
-    lines: Lines<S>,
+    pub(crate) lines: Lines<S>,
     is_open: AtomicBool,
 }
 

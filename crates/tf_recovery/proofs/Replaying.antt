@@ -1,11 +1,13 @@
 -- The programs' providers as they answer from a log.
-use Rattle.std.proofs.Common.{◌≡◌, ◌∙◌, ◌≤◌, ℕ, List, [], ◌∷◌, length, map, refl, ap, ap₂, arith, subst}
+use Rattle.std.proofs.Common.{◌≡◌, ◌∙◌, ◌≤◌, ◌+◌, ℕ, List, [], ◌∷◌, Option, Some, None, length, map, refl, sym, ap, ap₂, arith, subst}
+use Rattle.std.specs.Prelude.{MatchOption, unwrap_or}
 use Rattle.std.proofs.lemmas.List.{length-map}
 use Rattle.tf_provider_local.specs.Answers.{file_meaning}
 use Rattle.tf_provider_log.specs.LogEntry.{LogEntryView}
-use Rattle.tf_provider_log.specs.Replayed.{all_replayed, own_entries}
+use Rattle.tf_provider_log.specs.Replayed.{all_replayed, own_entries, replayed}
 use Rattle.tf_provider_protocol.specs.Meaning.{Meaning}
 use Rattle.tf_provider_sim.specs.Table.{sim_meaning}
+use Rattle.tf_recovery.specs.Outside.{outside_meanings, outside_replayed}
 use Rattle.tf_recovery.specs.Replayed.{program_meanings, replayed_from}
 
 -- each provider has a list of entries
@@ -24,3 +26,31 @@ pub by_meanings : {B : Type 0} (f : B → Meaning) (bs : List B) (P : List Meani
     → bs ≡ b ∷ c ∷ [] → f b ≡ first → f c ≡ second → P ms
 by_meanings f bs P first second ms b c holds same items is_first is_second =
     subst P (ap (λ xs. map f xs) items ∙ (ap₂ (λ (m n : Meaning). m ∷ n ∷ []) is_first is_second ∙ same)) holds
+
+-- three lists, taken one by one
+pub three_lists : {V : Type 0} (f : V → List LogEntryView) (xs ys zs ws : List V) (a b c : Option V) (d e g : V) (i j k l : ℕ) (p q r : List LogEntryView) → map f xs ≡ p ∷ q ∷ r ∷ [] → 3 ≤ i
+    → MatchOption a ((i ≡ 0) × (j ≡ 0)) (λ x. (xs ≡ x ∷ ys) × (j + 1 ≡ i))
+    → MatchOption b ((j ≡ 0) × (k ≡ 0)) (λ y. (ys ≡ y ∷ zs) × (k + 1 ≡ j))
+    → MatchOption c ((k ≡ 0) × (l ≡ 0)) (λ z. (zs ≡ z ∷ ws) × (l + 1 ≡ k))
+    → f (unwrap_or a d) ∷ f (unwrap_or b e) ∷ f (unwrap_or c g) ∷ [] ≡ p ∷ q ∷ r ∷ []
+three_lists f xs ys zs ws (Some x) (Some y) (Some z) d e g i j k l p q r same h (s, t) (u, v) (w, o) =
+    let all : map f xs ≡ f x ∷ f y ∷ f z ∷ map f ws = rw (s, u, w) refl in
+    let ends : f x ∷ f y ∷ f z ∷ map f ws ≡ p ∷ q ∷ r ∷ [] = sym all ∙ same in (cc)
+three_lists f xs ys zs ws (Some x) (Some y) None d e g i j k l p q r same h (s, t) (u, v) (w, o) = absurd (omega (arith, h, t, v, w))
+three_lists f xs ys zs ws (Some x) None c d e g i j k l p q r same h (s, t) (u, v) w = absurd (omega (arith, h, t, u))
+three_lists f xs ys zs ws None b c d e g i j k l p q r same h (s, t) u w = absurd (omega (arith, h, s))
+
+-- each of three providers has a list of entries
+pub three_long : {V : Type 0} (f : V → List LogEntryView) (xs : List V) (p q r : List LogEntryView) → map f xs ≡ p ∷ q ∷ r ∷ [] → 3 ≤ length xs
+three_long f xs p q r same = let as_many = ap length same in omega (arith, length-map xs f, as_many)
+
+-- what holds of the meanings of three providers holds of these meanings, if they are the same
+pub by_three : {B : Type 0} (f : B → Meaning) (bs : List B) (P : List Meaning → Type 0) (first second third : Meaning) (ms : List Meaning) (b c d : B) → P (map f bs) → first ∷ second ∷ third ∷ [] ≡ ms
+    → bs ≡ b ∷ c ∷ d ∷ [] → f b ≡ first → f c ≡ second → f d ≡ third → P ms
+by_three f bs P first second third ms b c d holds same items is_first is_second is_third =
+    subst P (ap (λ xs. map f xs) items ∙ (rw (is_first, is_second, is_third) refl ∙ same)) holds
+
+-- the providers of an apply with providers outside the program, each answering from its own entries
+pub outside_together : (remote : Meaning) (p q r es fs : List LogEntryView) → p ∷ q ∷ r ∷ [] ≡ own_entries (outside_meanings remote) es → es ≡ fs
+    → replayed p remote ∷ replayed q sim_meaning ∷ replayed r file_meaning ∷ [] ≡ outside_replayed remote fs
+outside_together remote p q r es fs own same = ap (λ lists. all_replayed lists (outside_meanings remote)) (own ∙ ap (own_entries (outside_meanings remote)) same)

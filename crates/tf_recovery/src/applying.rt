@@ -2,6 +2,7 @@
 
 use crate::approving::AtTerminal;
 use crate::explaining::{explains, sources, warn};
+use crate::outside::apply_outside;
 use crate::recovering::recover;
 use std::alloc::AllocError;
 use std::fs::File;
@@ -31,6 +32,9 @@ pub fn apply<T: Threads + Wait + Sync, O: Write, E: Write>(
     out: &mut O,
     err: &mut E,
 ) -> io::Result<ExitCode> {
+    if !options.providers.is_empty() {
+        return apply_outside(rt, threads, options, out, err);
+    }
     let (seen, file) = match hold(rt, options, err) {
         Ok(held) => held,
         Err(status) => return Ok(status),

@@ -4,11 +4,18 @@
 
 mod applying;
 mod approving;
+mod carrying;
 mod explaining;
+mod outside;
 mod own;
+mod pipes;
 mod planning;
 mod previewing;
+mod printing;
 mod recovering;
+mod remotes;
+mod session;
+mod walking;
 
 pub use applying::apply;
 pub use planning::plan;

@@ -2,6 +2,7 @@
 
 use crate::approving::colours;
 use crate::explaining::{explains, sources, warn};
+use crate::outside::plan_outside;
 use crate::previewing::preview;
 use std::io;
 use std::io::Write;
@@ -27,6 +28,9 @@ pub fn plan<O: Write, E: Write>(
 ) -> io::Result<ExitCode> {
     if let Err(status) = check_forms(&options, err) {
         return Ok(status);
+    }
+    if !options.providers.is_empty() {
+        return plan_outside(rt, options, out, err);
     }
     let seen = match see(rt, options, err) {
         Ok(seen) => seen,

@@ -1,0 +1,89 @@
+//! The lines of calls of providers outside the program, whose replies come later.
+
+ghost use Rattle.std.specs.Prelude.{◌≡◌, IfOk};
+
+use crate::fault::Unwritten;
+use crate::lines::Telling;
+use crate::open_log::OpenLog;
+use crate::sink::{NotAdded, Sink};
+use crate::writing::answered_line;
+use std::alloc::Global;
+use tf_provider_protocol::{Reply, Request};
+
+/// A request that the log on the disk says is begun, so that it may be sent to a provider outside the program. Only
+/// the request's synced line creates one, and it can't be copied.
+#[derive(Drop)]
+pub struct Announced<'a> {
+    request: &'a Request,
+}
+
+impl<'a> Announced<'a> {
+    /// Returns the request.
+    pub fn request(&self) -> &'a Request
+        ensures { result.now ≡ self.now.request.now }
+    {
+        self.request
+    }
+}
+
+/// A reply that came from outside, with its request.
+#[derive(Drop)]
+pub(crate) struct Received<'a> {
+    request: &'a Request,
+    reply: &'a Reply,
+}
+
+/// A reply from outside may write that it answers its request.
+impl<'a> Telling for Received<'a> {
+    ghost use Rattle.tf_provider_log.specs.LogEntry.{replied};
+    ghost use Rattle.tf_provider_log.specs.Line.{IsEntryLine};
+    ghost use Rattle.tf_provider_protocol.specs.Meaning.{asked, answered};
+
+    ghost may_tell = { λ received text. IsEntryLine (replied (asked received.request.now) (answered received.reply.now)) text };
+}
+
+impl<S: Sink> OpenLog<S> {
+    /// Writes that a request is begun and syncs the log, so that the request may be sent.
+    ///
+    /// # Errors
+    ///
+    /// Fails if the log isn't started or is lost, if no line can be built for the request, or if the line can't be
+    /// written or synced; in the last case the log is lost.
+    pub fn announce<'a>(
+        &self,
+        alloc: Global,
+        request: &'a Request,
+    ) -> Result<Announced<'a>, NotAdded>
+        ensures { IfOk result (λ announced. announced.request.now ≡ request.now) }
+    {
+        match self.begin(alloc, request) {
+            Ok(begun) => Ok(Announced {
+                request: begun.into_request(),
+            }),
+            Err(_) => Err(NotAdded),
+        }
+    }
+
+    /// Writes the reply that came for a request. Its line is on the disk after the next sync.
+    ///
+    /// # Errors
+    ///
+    /// Fails if a value doesn't fit a line, and then the log stays as it is. Fails if the line can't be built or
+    /// written, and then the log is lost.
+    pub fn receive(&self, alloc: Global, request: &Request, reply: &Reply) -> Result<(), NotAdded> {
+        match answered_line(alloc, request, reply) {
+            Ok(line) => {
+                let received = Received { request, reply };
+                match self.lines.add(&received, line.as_str()) {
+                    Ok(_) => Ok(()),
+                    Err(_) => Err(NotAdded),
+                }
+            }
+            Err(Unwritten::Unfit) => Err(NotAdded),
+            Err(Unwritten::OutOfMemory) => {
+                let _ = self.lines.lose();
+                Err(NotAdded)
+            }
+        }
+    }
+}

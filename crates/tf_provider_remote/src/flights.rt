@@ -1,0 +1,104 @@
+//! The requests that were sent and that have no reply yet.
+
+ghost use Rattle.std.specs.Prelude.{◌≡◌};
+
+use std::alloc::{AllocError, Global};
+use tf_provider_protocol::Request;
+
+/// A request that was sent and has no reply yet.
+#[derive(Drop)]
+pub struct Flight {
+    /// The number of the request, which its reply repeats.
+    pub id: u64,
+    /// The number of the provider that it was sent to.
+    pub provider: usize,
+    /// How many bytes its line has.
+    pub size: usize,
+    /// The request.
+    pub request: Request,
+}
+
+/// The requests that were sent and that have no reply yet, in the order in which they were sent.
+#[derive(Drop)]
+pub struct Flights {
+    flights: Vec<Flight>,
+}
+
+/// How many bytes the lines may have that are in flight together. A pipe holds as many before a write to it waits, so
+/// that the program and a provider that reads no request while it writes a reply don't wait for each other.
+const MOST_BYTES: usize = 32_000;
+
+impl Flights {
+    /// Builds an empty list.
+    pub fn new(alloc: Global) -> Flights {
+        Flights {
+            flights: Vec::new(alloc),
+        }
+    }
+
+    /// Returns how many requests are in flight.
+    pub fn len(&self) -> usize {
+        self.flights.len()
+    }
+
+    /// Returns whether no request is in flight.
+    pub fn is_empty(&self) -> bool {
+        self.flights.is_empty()
+    }
+
+    /// Returns the requests in flight.
+    pub fn list(&self) -> &[Flight] {
+        self.flights.as_slice()
+    }
+
+    /// Returns whether a line of this size may be sent, if at most `most` requests may be in flight.
+    pub fn has_room(&self, most: usize, size: usize) -> bool {
+        if self.flights.is_empty() {
+            return true;
+        }
+        if self.flights.len() >= most {
+            return false;
+        }
+        let mut bytes = size;
+        for flight in &self.flights {
+            bytes = bytes.saturating_add(flight.size);
+        }
+        bytes <= MOST_BYTES
+    }
+
+    /// Adds a request that was sent.
+    pub fn add(&mut self, flight: Flight) -> Result<(), AllocError> {
+        self.flights.push(flight)?;
+        Ok(())
+    }
+
+    /// Takes the request of this number, if it is in flight to this provider.
+    pub fn take(&mut self, provider: usize, id: u64) -> Option<Flight> {
+        let place = place_of(self.flights.as_slice(), provider, id)?;
+        if place < self.flights.len() {
+            Some(self.flights.remove(place))
+        } else {
+            None
+        }
+    }
+
+    /// Returns the provider that the first request in flight was sent to, but for those that are lost.
+    pub fn next_provider(&self, lost: &[bool]) -> Option<usize> {
+        for flight in &self.flights {
+            if lost.get(flight.provider) == Some(&false) {
+                return Some(flight.provider);
+            }
+        }
+        None
+    }
+}
+
+/// Returns the place of the request of this number, if it is in flight to this provider.
+fn place_of(flights: &[Flight], provider: usize, id: u64) -> Option<usize> {
+    for (place, flight) in flights.iter().enumerate() {
+        if flight.id == id && flight.provider == provider {
+            return Some(place);
+        }
+    }
+    None
+}

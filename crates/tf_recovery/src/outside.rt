@@ -1,0 +1,240 @@
+//! The work of both programs with providers outside the program.
+
+use crate::approving::colours;
+use crate::carrying::{carried_out, check_pipes, finish, open_pipes};
+use crate::explaining::{explains, sources};
+use crate::own::{OwnEntries, entries_by_provider};
+use crate::printing::{PrintedPlan, approved_plan};
+use crate::remotes::read_types;
+use crate::session::{ApplyLog, Session};
+use std::alloc::AllocError;
+use std::fs::File;
+use std::io;
+use std::io::Write;
+use std::process::ExitCode;
+use std::sync::{Arc, Wait};
+use tf_cli_files::{CallControl, Past, Place, ProgramInput, Seen, hold, see};
+use tf_cli_options::Options;
+use tf_cli_program::{finish_recovery, preview_recovery, print_plan, start_log};
+use tf_explain::Explained;
+use tf_provider::Provider;
+use tf_provider_local::LocalFile;
+use tf_provider_log::{LogEntry, Replayed};
+use tf_provider_remote::RemoteTypes;
+use tf_provider_sim::Sim;
+
+/// Prints the plan with providers outside the program, and returns the program's status.
+pub(crate) fn plan_outside<O: Write, E: Write>(
+    rt: &HostRuntime,
+    options: Options,
+    out: &mut O,
+    err: &mut E,
+) -> io::Result<ExitCode> {
+    let types = match read_types(rt, &options.providers, err) {
+        Ok(types) => types,
+        Err(status) => return Ok(status),
+    };
+    let seen = match see(rt, options, err) {
+        Ok(seen) => seen,
+        Err(status) => return Ok(status),
+    };
+    let Seen {
+        mut given,
+        place,
+        past,
+    } = seen;
+    if let Err(status) = preview_outside(rt, &types, &place, &mut given, past, err)? {
+        return Ok(status);
+    }
+    print_given(rt, &types, &place, &given, out, err)
+}
+
+/// Prints the plan's text, or its drawing if the options ask for that.
+fn print_given<O: Write, E: Write>(
+    rt: &HostRuntime,
+    types: &RemoteTypes,
+    place: &Place,
+    given: &ProgramInput,
+    out: &mut O,
+    err: &mut E,
+) -> io::Result<ExitCode> {
+    let alloc = rt.alloc();
+    let mut providers: Vec<Box<dyn Provider + Sync>> = Vec::new(alloc);
+    providers.push(Box::new(alloc, types.share()?)?)?;
+    providers.push(Box::new(alloc, Sim::new(alloc)?)?)?;
+    providers.push(Box::new(alloc, LocalFile::new(alloc, *rt)?)?)?;
+    let files = sources(given, place, providers.as_slice());
+    let mut err = Explained::new(alloc, err, explains(rt, given), files);
+    let status = print_plan(alloc, given, colours(rt), &providers, out, &mut err);
+    Ok(ExitCode::from(status))
+}
+
+/// Recovers the state that an unfinished apply left, if there is one, for a plan.
+fn preview_outside<E: Write>(
+    rt: &HostRuntime,
+    types: &RemoteTypes,
+    place: &Place,
+    given: &mut ProgramInput,
+    past: Option<(Past, Vec<LogEntry>)>,
+    err: &mut E,
+) -> Result<Result<(), ExitCode>, AllocError> {
+    let Some((past, entries)) = past else {
+        return Ok(Ok(()));
+    };
+    let alloc = rt.alloc();
+    let OwnEntries { remote, sim, files } = entries_by_provider(rt, types, entries)?;
+    let remote = Replayed::new(alloc, remote, types.share()?);
+    let sim = Replayed::new(alloc, sim, Sim::new(alloc)?);
+    let files = Replayed::new(alloc, files, LocalFile::new(alloc, *rt)?);
+    let mut providers: Vec<Box<dyn Provider + Sync>> = Vec::new(alloc);
+    providers.push(Box::new(alloc, remote)?)?;
+    providers.push(Box::new(alloc, sim)?)?;
+    providers.push(Box::new(alloc, files)?)?;
+    Ok(preview_recovery(alloc, place, given, &past, providers.as_slice(), err))
+}
+
+/// Recovers an unfinished apply, if there is one, then applies with providers outside the program, and returns the
+/// program's status.
+pub(crate) fn apply_outside<T: Wait, O: Write, E: Write>(
+    rt: &HostRuntime,
+    threads: &T,
+    options: Options,
+    out: &mut O,
+    err: &mut E,
+) -> io::Result<ExitCode> {
+    if options.stop_after.is_some() {
+        let _ = writeln!(err, "error: --stop-after cannot be used with --provider");
+        return Ok(ExitCode::FAILURE);
+    }
+    let types = match read_types(rt, &options.providers, err) {
+        Ok(types) => types,
+        Err(status) => return Ok(status),
+    };
+    if let Err(status) = check_pipes(rt, &options.providers, err) {
+        return Ok(status);
+    }
+    let (seen, file) = match hold(rt, options, err) {
+        Ok(held) => held,
+        Err(status) => return Ok(status),
+    };
+    let Seen {
+        mut given,
+        place,
+        past,
+    } = seen;
+    let recovered = recover_outside(rt, &types, &place, &file, &mut given, past, out, err)?;
+    if let Err(status) = recovered {
+        return Ok(status);
+    }
+    apply_with(rt, threads, types, &place, file, &given, out, err)
+}
+
+/// Recovers the state that an unfinished apply left, if there is one.
+fn recover_outside<O: Write, E: Write>(
+    rt: &HostRuntime,
+    types: &RemoteTypes,
+    place: &Place,
+    file: &File,
+    given: &mut ProgramInput,
+    past: Option<(Past, Vec<LogEntry>)>,
+    out: &mut O,
+    err: &mut E,
+) -> Result<Result<(), ExitCode>, AllocError> {
+    let Some((past, entries)) = past else {
+        return Ok(Ok(()));
+    };
+    let alloc = rt.alloc();
+    let OwnEntries { remote, sim, files } = entries_by_provider(rt, types, entries)?;
+    let remote = Replayed::new(alloc, remote, types.share()?);
+    let sim = Replayed::new(alloc, sim, Sim::new(alloc)?);
+    let files = Replayed::new(alloc, files, LocalFile::new(alloc, *rt)?);
+    let mut providers: Vec<Box<dyn Provider + Sync>> = Vec::new(alloc);
+    providers.push(Box::new(alloc, remote)?)?;
+    providers.push(Box::new(alloc, sim)?)?;
+    providers.push(Box::new(alloc, files)?)?;
+    Ok(finish_recovery(
+        rt,
+        place,
+        file,
+        given,
+        &past,
+        providers.as_slice(),
+        out,
+        err,
+    ))
+}
+
+/// Applies with providers outside the program, after a recovery.
+fn apply_with<T: Wait, O: Write, E: Write>(
+    rt: &HostRuntime,
+    threads: &T,
+    types: RemoteTypes,
+    place: &Place,
+    file: File,
+    given: &ProgramInput,
+    out: &mut O,
+    err: &mut E,
+) -> io::Result<ExitCode> {
+    let alloc = rt.alloc();
+    let file = Arc::new(alloc, file)?;
+    let control = CallControl::new(alloc, Arc::try_clone(&file)?, None, None)?;
+    let sim = control.wrap(alloc, Sim::new(alloc)?)?;
+    let reserved = place.own_files(alloc, &given.options)?;
+    let local_file = control.wrap(alloc, LocalFile::with_reserved(alloc, *rt, reserved)?)?;
+    let mut providers: Vec<Box<dyn Provider + Sync>> = Vec::new(alloc);
+    providers.push(Box::new(alloc, types.share()?)?)?;
+    providers.push(Box::new(alloc, sim)?)?;
+    providers.push(Box::new(alloc, local_file)?)?;
+    let log_file: &File = &file;
+    let files = sources(given, place, providers.as_slice());
+    let mut err = Explained::new(alloc, err, explains(rt, given), files);
+    carry_out_outside(
+        rt,
+        threads,
+        types,
+        place,
+        log_file,
+        control.log(),
+        given,
+        &providers,
+        out,
+        &mut err,
+    )
+}
+
+/// Prints the plan, asks for approval, opens the pipes, starts the log, makes the calls, prints the result and writes the state.
+fn carry_out_outside<T: Wait, O: Write, E: Write>(
+    rt: &HostRuntime,
+    threads: &T,
+    types: RemoteTypes,
+    place: &Place,
+    file: &File,
+    log: &ApplyLog,
+    given: &ProgramInput,
+    providers: &[Box<dyn Provider + Sync>],
+    out: &mut O,
+    err: &mut E,
+) -> io::Result<ExitCode> {
+    let PrintedPlan {
+        printed,
+        has_actions,
+    } = match approved_plan(rt, given, providers, out, err) {
+        Ok(plan) => plan,
+        Err(status) => return Ok(status),
+    };
+    let folders = if has_actions {
+        given.options.providers.as_slice()
+    } else {
+        &[]
+    };
+    let pipes = match open_pipes(rt, folders, err)? {
+        Ok(pipes) => pipes,
+        Err(status) => return Ok(status),
+    };
+    if let Err(status) = start_log(rt, place, log, given, err) {
+        return Ok(status);
+    }
+    let mut session = Session::new(rt.alloc(), types, pipes, given.options.parallelism)?;
+    let answer = carried_out(rt, threads, given, log, providers, &mut session, err)?;
+    Ok(finish(rt, place, file, log, &session, answer, printed, out, err))
+}

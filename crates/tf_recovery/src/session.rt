@@ -1,0 +1,289 @@
+//! The calls of an apply with providers outside the program.
+
+ghost use Rattle.std.specs.List.{list_any};
+ghost use Rattle.std.specs.Prelude.{◌≡◌, false, map};
+ghost use Rattle.tf_provider_log.specs.LogEntry.{log_entry_of};
+ghost use Rattle.tf_provider_log.specs.Replayed.{is_about};
+ghost use Rattle.tf_provider_protocol.specs.Meaning.{asked};
+
+use crate::pipes::{Loss, Pipe};
+use std::alloc::{AllocError, Global};
+use std::fs;
+use std::fs::File;
+use std::io::Write;
+use tf_cli_files::{LogSink, ProgramInput};
+use tf_cli_lines::save_all;
+use tf_provider::{Provider, Reply, Request, first_provider};
+use tf_provider_log::{LogEntry, OpenLog, copy_request, is_begun};
+use tf_provider_remote::{Flight, Flights, RemoteTypes, Response, Unsent, Wish, request_line};
+
+/// The log of an apply.
+pub(crate) type ApplyLog = OpenLog<LogSink<File>>;
+
+/// The calls of an apply: what the log has, what is in flight, and the pipes.
+#[derive(Drop)]
+pub(crate) struct Session {
+    /// The types of the providers outside the program.
+    pub(crate) types: RemoteTypes,
+    /// The lines of the log after the first.
+    pub(crate) entries: Vec<LogEntry>,
+    /// What was sent and has no reply yet.
+    pub(crate) flights: Flights,
+    /// The pipes of each provider.
+    pub(crate) pipes: Vec<Pipe>,
+    /// Which providers are lost.
+    pub(crate) lost: Vec<bool>,
+    /// Whether nothing more is begun.
+    pub(crate) is_closed: bool,
+    /// The number of the next request.
+    pub(crate) next_id: u64,
+    /// How many requests may be in flight.
+    pub(crate) most: usize,
+}
+
+impl Session {
+    /// Builds the session of an apply before any call.
+    pub(crate) fn new(
+        alloc: Global,
+        types: RemoteTypes,
+        pipes: Vec<Pipe>,
+        most: usize,
+    ) -> Result<Session, AllocError> {
+        let mut lost = Vec::new(alloc);
+        for _ in 0..pipes.len() {
+            lost.push(false)?;
+        }
+        Ok(Session {
+            types,
+            entries: Vec::new(alloc),
+            flights: Flights::new(alloc),
+            pipes,
+            lost,
+            is_closed: false,
+            next_id: 1,
+            most,
+        })
+    }
+
+    /// Returns whether no call is to be begun, and no reply can come any more.
+    pub(crate) fn is_finished(&self, wishes: &[Wish]) -> bool {
+        self.flights.next_provider(&self.lost).is_none()
+            && (self.is_closed || !self.has_new(wishes))
+    }
+
+    /// Returns whether a request isn't begun.
+    fn has_new(&self, wishes: &[Wish]) -> bool {
+        for wish in wishes {
+            if !is_begun(&self.entries, wish.request()) {
+                return true;
+            }
+        }
+        false
+    }
+
+    /// Makes the calls that aren't begun, and takes replies.
+    pub(crate) fn serve<E: Write>(
+        &mut self,
+        rt: &HostRuntime,
+        log: &ApplyLog,
+        providers: &[Box<dyn Provider + Sync>],
+        given: &ProgramInput,
+        wishes: Vec<Wish>,
+        err: &mut E,
+    ) -> Result<(), AllocError> {
+        let folders = given.options.providers.as_slice();
+        for wish in wishes {
+            if is_stopped(rt, &given.options.stop_file) {
+                self.is_closed = true;
+            }
+            if !self.is_closed && !is_begun(&self.entries, wish.request()) {
+                match self.types.provider_of(wish.request().type_name.as_str()) {
+                    Some(provider) => {
+                        self.send(rt, log, folders, provider, wish.into_request(), err)?;
+                    }
+                    None => self.call(log, providers, wish.into_request())?,
+                }
+            }
+        }
+        let enough = 1 + self.entries.len() / 200;
+        for _ in 0..enough {
+            self.receive(rt, log, folders, err)?;
+        }
+        Ok(())
+    }
+
+    /// Calls a provider of the program.
+    fn call(
+        &mut self,
+        log: &ApplyLog,
+        providers: &[Box<dyn Provider + Sync>],
+        request: Request,
+    ) -> Result<(), AllocError> {
+        let reply = match first_provider(providers, request.type_name.as_str()) {
+            Some(provider) => provider.apply(&request),
+            None => Reply::NoMemory,
+        };
+        if log.is_lost() {
+            self.is_closed = true;
+        }
+        self.entries.push(LogEntry::Answered(request, reply))?;
+        Ok(())
+    }
+
+    /// Sends a request to its provider, once there is room for it.
+    fn send<E: Write>(
+        &mut self,
+        rt: &HostRuntime,
+        log: &ApplyLog,
+        folders: &[String],
+        provider: usize,
+        request: Request,
+        err: &mut E,
+    ) -> Result<(), AllocError> {
+        let alloc = rt.alloc();
+        let line = match request_line(alloc, self.next_id, &request) {
+            Ok(line) => line,
+            Err(Unsent::OutOfMemory) => return Err(AllocError),
+            Err(Unsent::Unfit) => return self.pass_over(request),
+        };
+        for _ in 0..u64::MAX {
+            if self.is_closed || self.flights.has_room(self.most, line.len()) {
+                break;
+            }
+            self.receive(rt, log, folders, err)?;
+        }
+        if self.is_closed {
+            return Ok(());
+        }
+        if is_begun(self.entries.as_slice(), &request) {
+            return Ok(());
+        }
+        self.begin(alloc, log, folders, provider, request, line, err)
+    }
+
+    /// Notes a request that can't be sent, so that it isn't tried again.
+    fn pass_over(&mut self, request: Request) -> Result<(), AllocError> {
+        self.entries
+            .push(LogEntry::Answered(request, Reply::NoMemory))?;
+        Ok(())
+    }
+
+    /// Writes that a request is begun, and then its line. No entry is about this request, so it wasn't sent before.
+    fn begin<E: Write>(
+        &mut self,
+        alloc: Global,
+        log: &ApplyLog,
+        folders: &[String],
+        provider: usize,
+        request: Request,
+        line: String,
+        err: &mut E,
+    ) -> Result<(), AllocError>
+        requires { list_any (is_about (asked request)) (map log_entry_of self.old.entries.items) ≡ false }
+    {
+        let copy = copy_request(alloc, &request)?;
+        let Ok(announced) = log.announce(alloc, &request) else {
+            self.is_closed = true;
+            return Ok(());
+        };
+        let sent = match self.pipes.get_mut(provider) {
+            Some(pipe) => pipe.send(announced, line.as_str()),
+            None => Err(Loss::Unwritten),
+        };
+        self.entries.push(LogEntry::Begun(copy))?;
+        let id = self.next_id;
+        self.next_id = id.saturating_add(1);
+        self.flights.add(Flight {
+            id,
+            provider,
+            size: line.len(),
+            request,
+        })?;
+        if let Err(loss) = sent {
+            self.lose(folders, provider, loss, err);
+        }
+        Ok(())
+    }
+
+    /// Waits for replies of the provider of the first request in flight, if there is one.
+    fn receive<E: Write>(
+        &mut self,
+        rt: &HostRuntime,
+        log: &ApplyLog,
+        folders: &[String],
+        err: &mut E,
+    ) -> Result<(), AllocError> {
+        let Some(provider) = self.flights.next_provider(&self.lost) else {
+            return Ok(());
+        };
+        let Some(pipe) = self.pipes.get_mut(provider) else {
+            return Ok(());
+        };
+        match pipe.receive(rt) {
+            Ok(responses) => {
+                let is_faulty = responses.is_faulty;
+                for response in responses.replies {
+                    self.take(rt.alloc(), log, folders, provider, response, err)?;
+                }
+                if is_faulty {
+                    self.lose(folders, provider, Loss::NotAReply, err);
+                }
+            }
+            Err(loss) => self.lose(folders, provider, loss, err),
+        }
+        Ok(())
+    }
+
+    /// Takes a reply: writes it to the log, and then uses it.
+    fn take<E: Write>(
+        &mut self,
+        alloc: Global,
+        log: &ApplyLog,
+        folders: &[String],
+        provider: usize,
+        response: Response,
+        err: &mut E,
+    ) -> Result<(), AllocError> {
+        if self.lost.get(provider) == Some(&true) {
+            return Ok(());
+        }
+        let Response { id, reply } = response;
+        let Some(flight) = self.flights.take(provider, id) else {
+            self.lose(folders, provider, Loss::Unasked, err);
+            return Ok(());
+        };
+        if log.receive(alloc, &flight.request, &reply).is_err() {
+            if !log.is_lost() {
+                self.lose(folders, provider, Loss::TooDeep, err);
+                return self.flights.add(flight);
+            }
+            self.is_closed = true;
+        }
+        self.entries
+            .push(LogEntry::Answered(flight.request, reply))?;
+        Ok(())
+    }
+
+    /// Notes that a provider is lost, and prints why. Nothing more is begun.
+    fn lose<E: Write>(&mut self, folders: &[String], provider: usize, loss: Loss, err: &mut E) {
+        self.is_closed = true;
+        if let Some(lost) = self.lost.get_mut(provider) {
+            if *lost {
+                return;
+            }
+            *lost = true;
+        }
+        if let Some(folder) = folders.get(provider) {
+            let parts = ["error: provider ", folder.as_str(), ": ", loss.text(), "\n"];
+            let _ = save_all(err, &parts);
+        }
+    }
+}
+
+/// Returns whether the file that stops an apply is named and exists.
+fn is_stopped(rt: &HostRuntime, name: &Option<String>) -> bool {
+    match name {
+        Some(name) => fs::metadata(rt, name.as_str()).is_ok(),
+        None => false,
+    }
+}

@@ -1,0 +1,85 @@
+//! An apply by providers that answer from a log, with what they are asked for besides.
+
+ghost use Rattle.std.specs.Prelude.{◌≡◌, IfOk, map};
+ghost use Rattle.tf_provider_log.specs.LogEntry.{log_entry_of};
+ghost use Rattle.tf_provider_log.specs.Replayed.{replayed};
+ghost use Rattle.tf_recovery.specs.Outside.{IsOutcome, outside_replayed};
+
+use crate::own::{OwnEntries, entries_by_provider};
+use std::alloc::{AllocError, Global};
+use std::sync::Arc;
+use tf_cli::{Applied, Refused, Stop, apply_one};
+use tf_cli_files::ProgramInput;
+use tf_provider::Provider;
+use tf_provider_local::LocalFile;
+use tf_provider_log::{LogEntry, copy_entries};
+use tf_provider_remote::{Asking, RemoteTypes, Wish, Wishes};
+use tf_provider_sim::Sim;
+
+/// How many requests one walk notes.
+const ROOM: usize = 512;
+
+/// The answer of an apply, and what it asked for that its log doesn't answer.
+pub(crate) struct Walk {
+    /// The answer.
+    pub(crate) answer: Result<Applied, Refused>,
+    /// The requests without an answer.
+    pub(crate) wishes: Vec<Wish>,
+}
+
+/// Applies what was given with providers that answer from their own entries of the log. Calls no other provider.
+pub(crate) fn walk(
+    rt: &HostRuntime,
+    given: &ProgramInput,
+    types: &RemoteTypes,
+    entries: &[LogEntry],
+) -> Result<Walk, AllocError>
+    ensures { IfOk result (λ walk. IsOutcome (outside_replayed (⟦<RemoteTypes as Provider>⟧.meaning types.now) (map log_entry_of entries.now)) given.now walk.answer) }
+{
+    let alloc = rt.alloc();
+    let OwnEntries { remote, sim, files } = entries_by_provider(
+        rt,
+        types,
+        copy_entries(alloc, entries)?,
+    )?;
+    let wishes = Arc::new(alloc, Wishes::with_room(alloc, ROOM)?)?;
+    let remote = asking(alloc, &wishes, remote, types.share()?)?;
+    let sim = asking(alloc, &wishes, sim, Sim::new(alloc)?)?;
+    let files = asking(alloc, &wishes, files, LocalFile::new(alloc, *rt)?)?;
+    let mut providers: Vec<Box<dyn Provider + Sync>> = Vec::new(alloc);
+    providers.push(Box::new(alloc, remote)?)?;
+    providers.push(Box::new(alloc, sim)?)?;
+    providers.push(Box::new(alloc, files)?)?;
+    let answer = apply_one(
+        alloc,
+        given.config.as_slice(),
+        given.vars_bytes(),
+        given.state_bytes(),
+        given.options.lineage.as_str(),
+        providers.as_slice(),
+        &Stop::new(),
+    );
+    let wishes = listed(alloc, &wishes);
+    Ok(Walk { answer, wishes })
+}
+
+/// Returns a provider that answers from these entries.
+fn asking<P: Provider>(
+    alloc: Global,
+    wishes: &Arc<Wishes>,
+    entries: Vec<LogEntry>,
+    provider: P,
+) -> Result<Asking<P>, AllocError>
+    ensures { IfOk result (λ asking. ⟦<Asking<P> as Provider>⟧.meaning asking ≡ replayed (map log_entry_of entries.items) (P.meaning provider)) }
+{
+    Ok(Asking::new(alloc, Arc::try_clone(wishes)?, entries, provider))
+}
+
+/// Returns the wishes, or none if memory runs out.
+fn listed(alloc: Global, wishes: &Arc<Wishes>) -> Vec<Wish> {
+    let wishes: &Wishes = wishes;
+    match wishes.list(alloc) {
+        Ok(wishes) => wishes,
+        Err(AllocError) => Vec::new(alloc),
+    }
+}

@@ -1,0 +1,124 @@
+"""Providers for Bixundor in Python, with the standard library alone.
+
+    from bixundor import provider, resource, Failed
+
+    @resource("note", path="string! force_new", text="string", id="string computed")
+    class Note:
+        def create(self, want):          # returns the object's attributes
+            ...
+        def update(self, prior, want):   # returns the object's attributes
+            ...
+        def destroy(self, prior):        # returns nothing
+            ...
+
+    provider(Note)
+
+An attribute is described by words: `string`, `number`, `bool` or `any`, with `!` behind it if the configuration has to set
+it; `force_new` if a change of it replaces the object; `computed` if the provider sets it. `want` has every attribute, with
+None for those that aren't set and for the computed ones that aren't known yet. `raise Failed("message")` says that the
+request failed and that no object is there; `raise Failed("message", left={..})` says which object is there in spite of it.
+Any other exception is a failure with the prior object, as if nothing was done.
+"""
+import json
+import os
+import sys
+import threading
+import traceback
+
+KINDS = ("string", "number", "bool", "any")
+
+
+class Failed(Exception):
+    """A request failed. `left` has the attributes of the object that is there, if one is."""
+
+    def __init__(self, message, left=None):
+        super().__init__(message)
+        self.message, self.left = message, left
+
+
+def attribute(words):
+    """Returns an attribute's schema, by its words."""
+    kind, *rest = words.split()
+    required = kind.endswith("!")
+    kind = kind.rstrip("!")
+    if kind not in KINDS or not set(rest) <= {"force_new", "computed"}:
+        raise ValueError(f"not the words of an attribute: {words!r}")
+    mode = "required" if required else "computed" if "computed" in rest else "optional"
+    form = {"type": "dynamic" if kind == "any" else kind, mode: True}
+    return {**form, "force_new": True} if "force_new" in rest else form
+
+
+def resource(name, version=0, /, **attributes):
+    """Makes a class the resource type of this name."""
+
+    def named(made):
+        made.type_name = name
+        made.schema = {
+            "version": version,
+            "block": {"attributes": {key: attribute(words) for key, words in attributes.items()}},
+        }
+        return made
+
+    return named
+
+
+def answer(served, request):
+    """Returns the reply to a request, without its number."""
+    try:
+        op, prior, want = request["op"], request["prior"], request["object"]
+        if op == "destroy":
+            served.destroy(prior)
+            return {"gone": True}
+        made = served.create(want) if op == "create" else served.update(prior, want)
+        attributes = served.schema["block"]["attributes"]
+        return {"object": {key: made.get(key) for key in attributes} | made}
+    except Failed as failed:
+        return {"failed": failed.message, "object": failed.left}
+    except Exception as error:
+        traceback.print_exc()
+        return {"failed": f"{type(error).__name__}: {error}", "object": request["prior"]}
+
+
+class Pipe:
+    """The pipe of replies, which threads share. Each reply is one line."""
+
+    def __init__(self, descriptor):
+        self.descriptor, self.lock = descriptor, threading.Lock()
+
+    def send(self, reply):
+        line = (json.dumps(reply) + "\n").encode()
+        with self.lock:
+            while line:
+                line = line[os.write(self.descriptor, line) :]
+
+
+def serve(types, requests, replies):
+    """Answers requests side by side until there are no more."""
+
+    def work(request):
+        try:
+            replies.send({"id": request["id"], **answer(types[request["type"]], request)})
+        except BrokenPipeError:
+            pass
+
+    workers = []
+    for line in requests:
+        worker = threading.Thread(target=work, args=(json.loads(line),))
+        worker.start()
+        workers = [it for it in workers if it.is_alive()] + [worker]
+    for worker in workers:
+        worker.join()
+
+
+def provider(*classes):
+    """Runs a provider of these types. With the word --schemas it prints their schemas instead."""
+    if sys.argv[1:] == ["--schemas"]:
+        schemas = {it.type_name: it.schema for it in classes}
+        json.dump({"format_version": "1.0", "resource_schemas": schemas}, sys.stdout, indent=2)
+        print()
+        return
+    # What a provider prints must not go to the pipe of replies.
+    replies = Pipe(os.dup(1))
+    os.dup2(2, 1)
+    with open(0, encoding="utf-8", closefd=False) as requests:
+        serve({it.type_name: it() for it in classes}, requests, replies)
