@@ -33,5 +33,6 @@ pub use seeing::{Seen, hold, see};
 pub use stop_file::StopFile;
 pub use stopping::Stopping;
 pub use telling::{
-    tell_in_flight, tell_lost, tell_misfit, tell_no_log, tell_no_memory, tell_past, tell_unrecovered,
+    tell_in_flight, tell_lost, tell_misfit, tell_no_log, tell_no_memory, tell_past,
+    tell_unrecovered,
 };

@@ -118,7 +118,8 @@ where
     };
     if planned.plan.actions.is_empty() || !approval.is_asked() {
         return run_logged(
-            rt, threads, place, file, log, given, planned, text, diff, None, providers, stop, out, err,
+            rt, threads, place, file, log, given, planned, text, diff, None, providers, stop, out,
+            err,
         );
     }
     let printed = save(out, shown_of(&text, &diff));
