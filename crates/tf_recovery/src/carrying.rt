@@ -6,7 +6,7 @@ ghost use Rattle.tf_recovery.specs.Outside.{IsOutcome, outside_replayed};
 
 use crate::pipes::Pipe;
 use crate::session::{ApplyLog, Session};
-use crate::walking::{Walk, walk};
+use crate::walking::{Walk, apply_over_log};
 use std::alloc::AllocError;
 use std::fs::File;
 use std::io::Write;
@@ -33,7 +33,7 @@ pub(crate) fn carried_out<T: Wait, E: Write>(
     ensures { IfOk result (λ answer. IsOutcome (outside_replayed (⟦<RemoteTypes as Provider>⟧.meaning session.new.types) (map log_entry_of session.new.entries.items)) given.now answer) }
 {
     for _ in threads.forever() {
-        let Walk { answer, wishes } = walk(rt, given, &session.types, &session.entries)?;
+        let Walk { answer, wishes } = apply_over_log(rt, given, &session.types, &session.entries)?;
         if session.is_finished(&wishes) {
             return Ok(answer);
         }

@@ -28,13 +28,13 @@ pub(crate) struct Walk {
 }
 
 /// Applies what was given with providers that answer from their own entries of the log. Calls no other provider.
-pub(crate) fn walk(
+pub(crate) fn apply_over_log(
     rt: &HostRuntime,
     given: &ProgramInput,
     types: &RemoteTypes,
     entries: &[LogEntry],
 ) -> Result<Walk, AllocError>
-    ensures { IfOk result (λ walk. IsOutcome (outside_replayed (⟦<RemoteTypes as Provider>⟧.meaning types.now) (map log_entry_of entries.now)) given.now walk.answer) }
+    ensures { IfOk result (λ applied. IsOutcome (outside_replayed (⟦<RemoteTypes as Provider>⟧.meaning types.now) (map log_entry_of entries.now)) given.now applied.answer) }
 {
     let alloc = rt.alloc();
     let OwnEntries { remote, sim, files } = entries_by_provider(

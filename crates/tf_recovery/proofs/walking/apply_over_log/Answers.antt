@@ -10,8 +10,8 @@ use Rattle.tf_recovery.proofs.Outcomes.{is_outcome}
 use Rattle.tf_recovery.proofs.Replaying.{by_three, outside_together}
 use Rattle.tf_recovery.specs.Outside.{IsOutcome, outside_replayed}
 use denote.Param.Object.{read_made}
-use Rattle.tf_recovery.proofs.walking.walk.OwnLists as lists
-use Rattle.tf_recovery.proofs.walking.walk.Goals as goal
+use Rattle.tf_recovery.proofs.walking.apply_over_log.OwnLists as lists
+use Rattle.tf_recovery.proofs.walking.apply_over_log.Goals as goal
 
 pub returns : goal.returns
 returns c =
