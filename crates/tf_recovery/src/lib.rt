@@ -6,6 +6,7 @@ mod applying;
 mod approving;
 mod carrying;
 mod explaining;
+mod notes;
 mod outside;
 mod own;
 mod pipes;

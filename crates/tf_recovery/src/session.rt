@@ -15,7 +15,7 @@ use tf_cli_files::{LogSink, ProgramInput};
 use tf_cli_lines::save_all;
 use tf_provider::{Provider, Reply, Request, first_provider};
 use tf_provider_log::{LogEntry, OpenLog, copy_request, is_begun};
-use tf_provider_remote::{Flight, Flights, RemoteTypes, Response, Unsent, Wish, request_line};
+use tf_provider_remote::{Flight, Flights, RemoteTypes, Response, Unsent, request_line};
 
 /// The log of an apply.
 pub(crate) type ApplyLog = OpenLog<LogSink<File>>;
@@ -66,15 +66,15 @@ impl Session {
     }
 
     /// Returns whether no call is to be begun, and no reply can come any more.
-    pub(crate) fn is_finished(&self, wishes: &[Wish]) -> bool {
+    pub(crate) fn is_finished(&self, wishes: &[Request]) -> bool {
         self.flights.next_provider(&self.lost).is_none()
             && (self.is_closed || !self.has_new(wishes))
     }
 
     /// Returns whether a request isn't begun.
-    fn has_new(&self, wishes: &[Wish]) -> bool {
+    fn has_new(&self, wishes: &[Request]) -> bool {
         for wish in wishes {
-            if !is_begun(&self.entries, wish.request()) {
+            if !is_begun(&self.entries, wish) {
                 return true;
             }
         }
@@ -88,7 +88,7 @@ impl Session {
         log: &ApplyLog,
         providers: &[Box<dyn Provider + Sync>],
         given: &ProgramInput,
-        wishes: Vec<Wish>,
+        wishes: Vec<Request>,
         err: &mut E,
     ) -> Result<(), AllocError> {
         let folders = given.options.providers.as_slice();
@@ -96,12 +96,12 @@ impl Session {
             if is_stopped(rt, &given.options.stop_file) {
                 self.is_closed = true;
             }
-            if !self.is_closed && !is_begun(&self.entries, wish.request()) {
-                match self.types.provider_of(wish.request().type_name.as_str()) {
+            if !self.is_closed && !is_begun(&self.entries, &wish) {
+                match self.types.provider_of(wish.type_name.as_str()) {
                     Some(provider) => {
-                        self.send(rt, log, folders, provider, wish.into_request(), err)?;
+                        self.send(rt, log, folders, provider, wish, err)?;
                     }
-                    None => self.call(log, providers, wish.into_request())?,
+                    None => self.call(log, providers, wish)?,
                 }
             }
         }

@@ -5,26 +5,25 @@ ghost use Rattle.tf_provider_log.specs.LogEntry.{log_entry_of};
 ghost use Rattle.tf_provider_log.specs.Replayed.{replayed};
 ghost use Rattle.tf_recovery.specs.Outside.{IsOutcome, outside_replayed};
 
+use crate::notes::Notes;
 use crate::own::{OwnEntries, entries_by_provider};
 use std::alloc::{AllocError, Global};
 use std::sync::Arc;
-use tf_cli::{Applied, Refused, Stop, apply_one};
+use tf_cli::{Applied, Refused, Stop, apply_one, state_to_write};
 use tf_cli_files::ProgramInput;
 use tf_provider::Provider;
 use tf_provider_local::LocalFile;
-use tf_provider_log::{LogEntry, copy_entries};
-use tf_provider_remote::{Asking, RemoteTypes, Wish, Wishes};
+use tf_provider_log::{Header, LogEntry, Logged, OpenLog, Replayed, copy_entries};
+use tf_provider_protocol::Request;
+use tf_provider_remote::RemoteTypes;
 use tf_provider_sim::Sim;
-
-/// How many requests one walk notes.
-const ROOM: usize = 512;
 
 /// The answer of an apply, and what it asked for that its log doesn't answer.
 pub(crate) struct Walk {
     /// The answer.
     pub(crate) answer: Result<Applied, Refused>,
     /// The requests without an answer.
-    pub(crate) wishes: Vec<Wish>,
+    pub(crate) wishes: Vec<Request>,
 }
 
 /// Applies what was given with providers that answer from their own entries of the log. Calls no other provider.
@@ -42,10 +41,11 @@ pub(crate) fn apply_over_log(
         types,
         copy_entries(alloc, entries)?,
     )?;
-    let wishes = Arc::new(alloc, Wishes::with_room(alloc, ROOM)?)?;
-    let remote = asking(alloc, &wishes, remote, types.share()?)?;
-    let sim = asking(alloc, &wishes, sim, Sim::new(alloc)?)?;
-    let files = asking(alloc, &wishes, files, LocalFile::new(alloc, *rt)?)?;
+    let notes = Notes::new(alloc)?;
+    let log = Arc::new(alloc, noting_log(alloc, &notes)?)?;
+    let remote = noting(alloc, &log, remote, types.share()?)?;
+    let sim = noting(alloc, &log, sim, Sim::new(alloc)?)?;
+    let files = noting(alloc, &log, files, LocalFile::new(alloc, *rt)?)?;
     let mut providers: Vec<Box<dyn Provider + Sync>> = Vec::new(alloc);
     providers.push(Box::new(alloc, remote)?)?;
     providers.push(Box::new(alloc, sim)?)?;
@@ -59,27 +59,39 @@ pub(crate) fn apply_over_log(
         providers.as_slice(),
         &Stop::new(),
     );
-    let wishes = listed(alloc, &wishes);
-    Ok(Walk { answer, wishes })
+    match notes.unanswered(alloc) {
+        Ok(wishes) => Ok(Walk { answer, wishes }),
+        Err(AllocError) => {
+            drop(state_to_write(answer));
+            Err(AllocError)
+        }
+    }
 }
 
-/// Returns a provider that answers from these entries.
-fn asking<P: Provider>(
+/// Returns a started log that is kept in memory.
+fn noting_log(alloc: Global, notes: &Notes) -> Result<OpenLog<Notes>, AllocError> {
+    let log = OpenLog::new(notes.share()?);
+    let header = Header {
+        config: String::new(alloc),
+        vars: None,
+        state: None,
+        lineage: String::new(alloc),
+    };
+    match log.start(alloc, &header) {
+        Ok(()) => Ok(log),
+        Err(_) => Err(AllocError),
+    }
+}
+
+/// Returns a provider that answers from these entries, and whose calls are noted.
+fn noting<P: Provider>(
     alloc: Global,
-    wishes: &Arc<Wishes>,
+    log: &Arc<OpenLog<Notes>>,
     entries: Vec<LogEntry>,
     provider: P,
-) -> Result<Asking<P>, AllocError>
-    ensures { IfOk result (λ asking. ⟦<Asking<P> as Provider>⟧.meaning asking ≡ replayed (map log_entry_of entries.items) (P.meaning provider)) }
+) -> Result<Logged<Replayed<P>, Notes>, AllocError>
+    ensures { IfOk result (λ noted. ⟦<Logged<Replayed<P>, Notes> as Provider>⟧.meaning noted ≡ replayed (map log_entry_of entries.items) (P.meaning provider)) }
 {
-    Ok(Asking::new(alloc, Arc::try_clone(wishes)?, entries, provider))
-}
-
-/// Returns the wishes, or none if memory runs out.
-fn listed(alloc: Global, wishes: &Arc<Wishes>) -> Vec<Wish> {
-    let wishes: &Wishes = wishes;
-    match wishes.list(alloc) {
-        Ok(wishes) => wishes,
-        Err(AllocError) => Vec::new(alloc),
-    }
+    let replayed = Replayed::new(alloc, entries, provider);
+    Ok(Logged::new(alloc, Arc::try_clone(log)?, replayed))
 }
