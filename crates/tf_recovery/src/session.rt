@@ -12,7 +12,6 @@ use std::fs;
 use std::fs::File;
 use std::io::Write;
 use tf_cli_files::{LogSink, ProgramInput};
-use tf_cli_lines::save_all;
 use tf_provider::{Provider, Reply, Request, first_provider};
 use tf_provider_log::{LogEntry, OpenLog, copy_request, is_begun};
 use tf_provider_remote::{Flight, Flights, RemoteTypes, Response, Unsent, request_line};
@@ -274,8 +273,7 @@ impl Session {
             *lost = true;
         }
         if let Some(folder) = folders.get(provider) {
-            let parts = ["error: provider ", folder.as_str(), ": ", loss.text(), "\n"];
-            let _ = save_all(err, &parts);
+            let _ = writeln!(err, "error: provider {folder}: {}", loss.text());
         }
     }
 }

@@ -2,18 +2,16 @@
 
 ghost use Rattle.std.specs.Prelude.{◌≡◌, IfOk, map};
 ghost use Rattle.tf_provider_log.specs.LogEntry.{log_entry_of};
-ghost use Rattle.tf_provider_log.specs.Replayed.{replayed};
 ghost use Rattle.tf_recovery.specs.Outside.{IsOutcome, outside_replayed};
 
-use crate::notes::Notes;
+use crate::notes::{Noted, Notes};
 use crate::own::{OwnEntries, entries_by_provider};
 use std::alloc::{AllocError, Global};
-use std::sync::Arc;
 use tf_cli::{Applied, Refused, Stop, apply_one, state_to_write};
 use tf_cli_files::ProgramInput;
 use tf_provider::Provider;
 use tf_provider_local::LocalFile;
-use tf_provider_log::{Header, LogEntry, Logged, OpenLog, Replayed, copy_entries};
+use tf_provider_log::{LogEntry, copy_entries};
 use tf_provider_protocol::Request;
 use tf_provider_remote::RemoteTypes;
 use tf_provider_sim::Sim;
@@ -42,10 +40,9 @@ pub(crate) fn apply_over_log(
         copy_entries(alloc, entries)?,
     )?;
     let notes = Notes::new(alloc)?;
-    let log = Arc::new(alloc, noting_log(alloc, &notes)?)?;
-    let remote = noting(alloc, &log, remote, types.share()?)?;
-    let sim = noting(alloc, &log, sim, Sim::new(alloc)?)?;
-    let files = noting(alloc, &log, files, LocalFile::new(alloc, *rt)?)?;
+    let remote = Noted::new(alloc, notes.share()?, remote, types.share()?);
+    let sim = Noted::new(alloc, notes.share()?, sim, Sim::new(alloc)?);
+    let files = Noted::new(alloc, notes.share()?, files, LocalFile::new(alloc, *rt)?);
     let mut providers: Vec<Box<dyn Provider + Sync>> = Vec::new(alloc);
     providers.push(Box::new(alloc, remote)?)?;
     providers.push(Box::new(alloc, sim)?)?;
@@ -59,39 +56,11 @@ pub(crate) fn apply_over_log(
         providers.as_slice(),
         &Stop::new(),
     );
-    match notes.unanswered(alloc) {
+    match notes.requests(alloc) {
         Ok(wishes) => Ok(Walk { answer, wishes }),
         Err(AllocError) => {
             drop(state_to_write(answer));
             Err(AllocError)
         }
     }
-}
-
-/// Returns a started log that is kept in memory.
-fn noting_log(alloc: Global, notes: &Notes) -> Result<OpenLog<Notes>, AllocError> {
-    let log = OpenLog::new(notes.share()?);
-    let header = Header {
-        config: String::new(alloc),
-        vars: None,
-        state: None,
-        lineage: String::new(alloc),
-    };
-    match log.start(alloc, &header) {
-        Ok(()) => Ok(log),
-        Err(_) => Err(AllocError),
-    }
-}
-
-/// Returns a provider that answers from these entries, and whose calls are noted.
-fn noting<P: Provider>(
-    alloc: Global,
-    log: &Arc<OpenLog<Notes>>,
-    entries: Vec<LogEntry>,
-    provider: P,
-) -> Result<Logged<Replayed<P>, Notes>, AllocError>
-    ensures { IfOk result (λ noted. ⟦<Logged<Replayed<P>, Notes> as Provider>⟧.meaning noted ≡ replayed (map log_entry_of entries.items) (P.meaning provider)) }
-{
-    let replayed = Replayed::new(alloc, entries, provider);
-    Ok(Logged::new(alloc, Arc::try_clone(log)?, replayed))
 }
