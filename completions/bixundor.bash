@@ -16,7 +16,7 @@ _bixundor() {
     done
     COMPREPLY=()
     case $prev in
-        --config|--vars|--state|--stop-file)
+        --config|--vars|--state|--stop-file|--in-flight)
             compopt -o filenames 2>/dev/null
             COMPREPLY=($(compgen -f -- "$cur"))
             return
@@ -31,7 +31,7 @@ _bixundor() {
     esac
     case $program in
         plan) options="--config --vars --state --lineage --parallelism --stop-after --explain --diff --provider --graph --json --detailed-exitcode --help" ;;
-        apply) options="--config --vars --state --lineage --parallelism --stop-after --explain --diff --provider --progress --auto-approve --stop-file --help" ;;
+        apply) options="--config --vars --state --lineage --parallelism --stop-after --explain --diff --provider --progress --auto-approve --stop-file --in-flight --help" ;;
         *) options="plan apply try --version --help" ;;
     esac
     if [[ $program == "" && ${COMP_WORDS[1]} == try && $COMP_CWORD -gt 1 ]]; then

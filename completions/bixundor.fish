@@ -20,4 +20,5 @@ complete -c bixundor -n '__fish_seen_subcommand_from plan' -l detailed-exitcode 
 complete -c bixundor -n '__fish_seen_subcommand_from apply' -l progress -d 'Prints a line as each provider call begins and ends, even if standard error is not a terminal'
 complete -c bixundor -n '__fish_seen_subcommand_from apply' -l auto-approve -d 'Doesn'\''t ask for approval of the plan at a terminal'
 complete -c bixundor -n '__fish_seen_subcommand_from apply' -l stop-file -r -F -d 'Begins no further call once this file exists'
+complete -c bixundor -n '__fish_seen_subcommand_from apply' -l in-flight -r -F -d 'The results of the calls that were in flight when an apply ended; retry if they were not made'
 complete -c bixundor -n '__fish_seen_subcommand_from plan apply' -l help -d 'Prints the options'

@@ -29,10 +29,10 @@ pub use program::run;
 pub use reading::tell_unread;
 pub use replacing::{InPlace, NotInPlace, keep_state, sync_folder};
 pub use replaying::both_replayed;
-pub use seeing::{Seen, hold, see};
+pub use seeing::{Seen, hold, see, see_past};
 pub use stop_file::StopFile;
 pub use stopping::Stopping;
 pub use telling::{
-    tell_in_flight, tell_lost, tell_misfit, tell_no_log, tell_no_memory, tell_past,
+    tell_calls, tell_in_flight, tell_lost, tell_misfit, tell_no_log, tell_no_memory, tell_past,
     tell_unrecovered,
 };

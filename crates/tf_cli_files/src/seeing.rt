@@ -147,10 +147,22 @@ fn see_state<R: Files + AllocGlobal, E: Write>(
 {
     let read = |file: &str| -> io::Result<Vec<u8>> { fs::read(rt, file) };
     given.state = read_optional(place.state.as_str(), &read, err)?;
-    let read_log = |file: &str| -> io::Result<Vec<u8>> { read_log_file(rt, file) };
-    let past = match read_optional(place.log.as_str(), &read_log, err)? {
-        Some(log) => read_past(rt.alloc(), place.log.as_str(), log.as_slice(), err)?,
-        None => None,
-    };
+    let past = see_past(rt, &place, err)?;
     Ok(Seen { given, place, past })
+}
+
+/// Reads the log, if there is one, and returns the interrupted apply that it records. If it isn't a log or can't be read,
+/// prints that and returns the program's exit status.
+pub fn see_past<R: Files + AllocGlobal, E: Write>(
+    rt: &R,
+    place: &Place,
+    err: &mut E,
+) -> Result<Option<(Past, Vec<LogEntry>)>, ExitCode>
+    ensures { IfErr result IsFailure }
+{
+    let read_log = |file: &str| -> io::Result<Vec<u8>> { read_log_file(rt, file) };
+    match read_optional(place.log.as_str(), &read_log, err)? {
+        Some(log) => read_past(rt.alloc(), place.log.as_str(), log.as_slice(), err),
+        None => Ok(None),
+    }
 }

@@ -103,14 +103,21 @@ pub fn tell_lost<E: Write>(name: &str, err: &mut E) {
     );
 }
 
-/// Prints what is recovered of an interrupted apply: how many results, and each request that was begun and has no
-/// recorded result.
+/// Prints what is recovered of an interrupted apply: how many results, if there are any, and each request that was begun
+/// and has no recorded result.
 pub fn tell_past<E: Write>(alloc: Global, past: &Past, err: &mut E) {
-    let _ = writeln!(
-        err,
-        "recovered {} results of an apply that did not end",
-        past.answers
-    );
+    if past.answers > 0 {
+        let _ = writeln!(
+            err,
+            "recovered {} results of an apply that did not end",
+            past.answers
+        );
+    }
+    tell_calls(alloc, past, err);
+}
+
+/// Prints each request of an interrupted apply that was begun and has no recorded result.
+pub fn tell_calls<E: Write>(alloc: Global, past: &Past, err: &mut E) {
     for request in &past.in_flight {
         tell_in_flight(alloc, request, err);
     }

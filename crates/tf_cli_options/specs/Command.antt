@@ -63,9 +63,10 @@ shared_app =
 abbrev pub plan_app : Forms → App
 plan_app forms = with_rule (with_rule (with_rule shared_app (graph_rule forms)) (flag_rule (codes "json"))) (flag_rule (codes "detailed-exitcode"))
 
--- `apply` also prints progress, may be kept from asking for approval, and stops once a file exists
+-- `apply` also prints progress, may be kept from asking for approval, stops once a file exists, and reads the results of calls that
+-- were in flight
 abbrev pub apply_app : App
-apply_app = with_rule (with_rule (with_rule shared_app (flag_rule (codes "progress"))) (flag_rule (codes "auto-approve"))) (option_rule (codes "stop-file"))
+apply_app = with_rule (with_rule (with_rule (with_rule shared_app (flag_rule (codes "progress"))) (flag_rule (codes "auto-approve"))) (option_rule (codes "stop-file"))) (option_rule (codes "in-flight"))
 
 -- the command line of a program
 abbrev pub options_app : Program → Forms → App

@@ -33,7 +33,7 @@ IsFlag given set = MatchOption given (set ≡ false) (λ text. (text ≡ codes "
 abbrev pub providers_given : List Row → List Text
 providers_given rows = unwrap_or (all_of (codes "provider") rows) []
 
--- Each option has its given value, or its default. The files of the variables' values and of a stop have no default.
+-- Each option has its given value, or its default. The files of the variables' values, of a stop and of calls in flight have no default.
 pub record Reads (o : Options) (rows : List Row) : Type 0 where
   pub config : string_bytes o.config ≡ given_or (codes "config") (codes "main.tf.json") rows
   pub vars : option_map (λ s. string_bytes s) o.vars ≡ first_of (codes "vars") rows
@@ -47,6 +47,7 @@ pub record Reads (o : Options) (rows : List Row) : Type 0 where
   pub progress : IsFlag (one_of (codes "progress") rows) o.progress
   pub auto_approve : IsFlag (one_of (codes "auto-approve") rows) o.auto_approve
   pub stop_file : option_map (λ s. string_bytes s) o.stop_file ≡ first_of (codes "stop-file") rows
+  pub in_flight : option_map (λ s. string_bytes s) o.in_flight ≡ first_of (codes "in-flight") rows
   pub explain : IsFlag (one_of (codes "explain") rows) o.explain
   pub diff : IsFlag (one_of (codes "diff") rows) o.diff
   pub providers : map (λ t. string_bytes t) o.providers.items ≡ providers_given rows

@@ -94,6 +94,12 @@ fn apply_command<'a>(alloc: Global) -> Result<Command<'a>, AllocError>
             "stop-file",
             "FILE",
             "Begins no further call once this file exists",
+        ))?
+        .arg(option(
+            alloc,
+            "in-flight",
+            "FILE",
+            "The results of the calls that were in flight when an apply ended; retry if they were not made",
         ))
 }
 
@@ -244,6 +250,7 @@ fn options_in(alloc: Global, matches: &ArgMatches<'_>) -> Result<Options, AllocE
         progress: flag_in(matches, "progress"),
         auto_approve: flag_in(matches, "auto-approve"),
         stop_file: value_of(alloc, matches, "stop-file")?,
+        in_flight: value_of(alloc, matches, "in-flight")?,
         explain: flag_in(matches, "explain"),
         diff: flag_in(matches, "diff"),
         providers: providers_in(alloc, matches)?,

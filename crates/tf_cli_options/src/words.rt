@@ -17,6 +17,7 @@
 //! | `--progress` | `apply` only: print progress even if standard error is not a terminal | only at a terminal |
 //! | `--auto-approve` | `apply` only: don't ask for approval of the plan at a terminal | asks at a terminal |
 //! | `--stop-file FILE` | `apply` only: begin no further call once this file exists | doesn't stop |
+//! | `--in-flight FILE` | `apply` only: the results of the calls that were in flight when an apply ended; `retry` if they weren't made | exits with 2 if there are such calls |
 
 /// A program of the engine. Each has options of its own in addition to the shared ones.
 #[derive(Clone, Copy, Debug, PartialEq, Eq)]
@@ -61,6 +62,9 @@ pub struct Options {
     pub auto_approve: bool,
     /// The file that stops an apply: once it exists, no further call begins. Only `apply` has it.
     pub stop_file: Option<String>,
+    /// The file with the results of the calls that were in flight when an apply ended, or `retry` if these calls weren't made. Only
+    /// `apply` has it.
+    pub in_flight: Option<String>,
     /// Whether to explain refusals and diagnostics even if standard error is not a terminal.
     pub explain: bool,
     /// Whether to print the plan with the old values next to the new ones.

@@ -1,9 +1,10 @@
 -- How a program continues after an unfinished apply.
-use Rattle.std.specs.Prelude.{◌≡◌, ◌≢◌, ◌⊎◌, ℕ, List, [], Option, option_map, string_bytes}
+use Rattle.std.specs.Prelude.{◌≡◌, ◌≢◌, ◌⊎◌, ℕ, List, [], Option, Some, codes, option_map, string_bytes}
 use Rattle.std.specs.Option.{option_or}
 use Rattle.tf_provider_protocol.specs.Meaning.{Meaning}
 use Rattle.tf_cli_program.specs.Recovered.{IsRecovered}
 use Rattle.tf_cli_files.specs.declared.given.ProgramInput.{ProgramInput}
+use Rattle.tf_cli_options.specs.declared.words.Options.{Options}
 use Rattle.tf_cli_program.specs.declared.recovery_status.RecoveryStatus.{RecoveryStatus}
 use Rattle.tf_cli_program.specs.declared.recovery_status.RecoveryStatus.TheVariants.{Before, After}
 use Rattle.tf_cli_files.specs.declared.past.Past.{Past}
@@ -36,9 +37,13 @@ pub record ContinuesFrom (ms : List Meaning) (past : Past) (old new : ProgramInp
   pub vars : new.vars ≡ old.vars
   pub state : state_given new ≡ state_after past.header.state recovered
 
--- If the given state is still the one before the apply, no program has yet reported the calls without a result, so there may be none.
-abbrev pub IsInspected : Past → ProgramInput → Type 0
-IsInspected past old = (past.in_flight.items ≡ []) ⊎ (state_given old ≢ past.header.state)
+-- the options say that the calls in flight weren't made
+abbrev pub IsRetried : Options → Type 0
+IsRetried options = option_map string_bytes options.in_flight ≡ Some (codes "retry")
+
+-- No call is in flight, or the options say that the calls in flight weren't made.
+abbrev pub IsInspected : Past → Options → Type 0
+IsInspected past options = (past.in_flight.items ≡ []) ⊎ IsRetried options
 
 -- a text replaces the given state, if there is one, and all else stays
 pub record IsReplaced (text : Option (List ℕ)) (old new : ProgramInput) : Type 0 where

@@ -130,9 +130,14 @@ IsSettled answer status (Some (Replaced in_place)) = to_write answer ≡ Some (t
 IsSettled answer status (Some UpToDate) = IfOk answer (λ a. a.changed ≡ false)
 IsSettled answer status (Some NoCalls) = ⊥
 
+-- An apply of which the plan is printed ends with this status, and may print more on standard error.
+abbrev pub EndsAs : List Meaning → ProgramInput → Result Applied Refused → (result : ExitCode) (out out_after err : Option (List ℕ)) → Type 0
+EndsAs ms given answer result out out_after err =
+    (status : ℕ) × (err_shown : Option (List ℕ)) × EndsApply ms given answer status out out_after err err_shown × (exit_status result ≡ status)
+
 -- An apply with a log ends before any call, with status 1 and at most the plan on standard output; or it ends as an apply without
 -- one does, and may print more on standard error.
 abbrev pub EndsLogged : List Meaning → ProgramInput → (result : ExitCode) (out out_after err : Option (List ℕ)) → Type 0
 EndsLogged ms given result out out_after err =
     ((exit_status result ≡ 1) × IsPlanAtMost ms given out out_after)
-    ⊎ ((answer : Result Applied Refused) × (status : ℕ) × (err_shown : Option (List ℕ)) × IsAnswer ms given answer × EndsApply ms given answer status out out_after err err_shown × (exit_status result ≡ status))
+    ⊎ ((answer : Result Applied Refused) × IsAnswer ms given answer × EndsAs ms given answer result out out_after err)

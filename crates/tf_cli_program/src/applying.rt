@@ -3,11 +3,13 @@
 ghost use Rattle.std.specs.Prelude.{◌≡◌, ℕ, List, IfErr, IfOk, None, Option, Some, if◌then◌else◌, map, option_map, string_bytes, unwrap_or};
 ghost use Rattle.std.specs.Process.{exit_status};
 ghost use Rattle.tf_cli.specs.Applies.{IsPlanOf, MayStart, text_in};
+ghost use Rattle.tf_cli_files.specs.declared.given.ProgramInput.{ProgramInput};
 ghost use Rattle.tf_cli_lines.specs.Saved.{AppendsStart};
-ghost use Rattle.tf_cli_program.specs.Work.{EndsApply, EndsLogged, IsAnswer, IsPrinted, IsSettled, IsShownPlan, texts_of};
+ghost use Rattle.tf_cli_program.specs.Work.{EndsApply, EndsAs, EndsLogged, IsPrinted, IsSettled, IsShownPlan, texts_of};
 ghost use Rattle.tf_plan_diff.specs.Diff.{diff_text};
 ghost use Rattle.tf_plan_planner.specs.declared.refused.Refused.TheVariants.{NoMemory};
 ghost use Rattle.tf_cli_text.specs.Shown.{refused_errors};
+ghost use Rattle.tf_provider_protocol.specs.Meaning.{Meaning};
 ghost use Rattle.tf_walk_action.specs.Words.{plan_of};
 
 use crate::approval::Approval;
@@ -20,8 +22,8 @@ use std::rt::Files;
 use std::sync::Wait;
 use std::thread::Threads;
 use tf_cli::{
-    InputTexts, Refused, SaveFault, Stop, carry_out as carry_out_plan, plan_of_texts,
-    print_refused, save, show_rest, state_to_write, text_of,
+    Applied, Refused, SaveFault, Stop, carry_out, print_refused, save, show_rest, state_to_write,
+    text_of,
 };
 use tf_cli_files::{
     LogFile, NotInPlace, Place, ProgramInput, Settled, UNWRITTEN, keep_state, tell_lost,
@@ -71,8 +73,8 @@ where
     }
 }
 
-/// Prints refusals, and returns the status.
-fn refuse<E: Write>(refused: &Refused, err: &mut E) -> ExitCode
+/// Prints refusals, and returns the status, 1.
+pub fn refuse<E: Write>(refused: &Refused, err: &mut E) -> ExitCode
     ensures status { exit_status result ≡ 1 }
     ensures errors { AppendsStart (E.contents err.old) (E.contents err.new) (refused_errors refused.now) }
 {
@@ -200,16 +202,9 @@ where
         return status;
     }
     let printed = print_text(printed, shown_of(&text, &diff), out);
-    let (status, settled) = carry_out(
-        rt, threads, place, log, given, planned, text, printed, providers, stop, out, err,
-    );
-    if log.is_lost() {
-        tell_lost(place.log.as_str(), err);
-    }
-    if let Some(why) = settled {
-        let _ = empty_log(file, &why, place, err);
-    }
-    ExitCode::from(status)
+    let workers = given.options.parallelism;
+    let answer = carry_out(threads, rt.alloc(), planned, text, providers, workers, stop);
+    end_apply(rt, place, file, log, answer, printed, out, err)
 }
 
 /// Prints a text, unless it is already printed.
@@ -222,31 +217,47 @@ fn print_text<O: Write>(printed: Option<Printed>, text: &str, out: &mut O) -> Pr
     }
 }
 
-/// Carries out a plan of what `apply` was given, which is already printed, with the number of workers that its options name. Prints
-/// the rest of the result, and writes the state if it changed. Returns the status, and why the log isn't needed any more; `None`
-/// if the state isn't written, which is status 3. The log of the calls is synced before the state is written; if it can't be, it
-/// is lost.
-pub fn carry_out<R: Files + AllocGlobal, T: Threads + Wait + Sync, S: Sink, O: Write, E: Write>(
+/// Prints what follows the text that shows the plan, which is already printed, writes the state if it changed, and empties the log
+/// unless the state couldn't be written. Returns the status.
+pub fn end_apply<R: Files + AllocGlobal, S: Sink, O: Write, E: Write>(
     rt: &R,
-    threads: &T,
+    place: &Place,
+    file: &R::File,
+    log: &OpenLog<S>,
+    answer: Result<Applied, Refused>,
+    printed: Result<(), SaveFault>,
+    out: &mut O,
+    err: &mut E,
+) -> ExitCode
+where
+    R::File: LogFile,
+    ensures { (ms : List Meaning) (given : ProgramInput) (before : Option (List ℕ)) (shown : List ℕ) → IsShownPlan ms given shown → IsPrinted (Some printed) shown before (O.contents out.old) → EndsAs ms given answer result before (O.contents out.new) (E.contents err.old) }
+{
+    let (status, settled) = keep_result(rt, place, log, answer, printed, out, err);
+    if log.is_lost() {
+        tell_lost(place.log.as_str(), err);
+    }
+    if let Some(why) = settled {
+        let _ = empty_log(file, &why, place, err);
+    }
+    ExitCode::from(status)
+}
+
+/// Prints what follows the text that shows the plan, which is already printed, and writes the state if it changed. Returns the status,
+/// and why the log isn't needed any more; `None` if the state isn't written, which is status 3. The log of the calls is synced before
+/// the state is written; if it can't be, it is lost.
+fn keep_result<R: Files + AllocGlobal, S: Sink, O: Write, E: Write>(
+    rt: &R,
     place: &Place,
     log: &OpenLog<S>,
-    given: &ProgramInput,
-    planned: &Planned,
-    text: String,
+    answer: Result<Applied, Refused>,
     printed: Result<(), SaveFault>,
-    providers: &[Box<dyn Provider + Sync>],
-    stop: &Stop,
     out: &mut O,
     err: &mut E,
 ) -> (u8, Option<Settled>)
-    requires starts { MayStart (map meaning providers.now) (plan_of planned.now) }
-    requires planned { IsPlanOf (map meaning providers.now) (texts_of given.now) (string_bytes given.now.options.lineage) (plan_of planned.now) }
-    requires shown { string_bytes text ≡ text_in (plan_of planned.now) }
-    ensures { (answer : _) × IsAnswer (map meaning providers.now) given.now answer × IsSettled answer result.0 result.1 × ((before : Option (List ℕ)) (shown : List ℕ) → IsShownPlan (map meaning providers.now) given.now shown → IsPrinted (Some printed) shown before (O.contents out.old) → EndsApply (map meaning providers.now) given.now answer result.0 before (O.contents out.new) (E.contents err.old) (E.contents err.new)) }
+    ensures settled { IsSettled answer result.0 result.1 }
+    ensures ends { (ms : List Meaning) (given : ProgramInput) (before : Option (List ℕ)) (shown : List ℕ) → IsShownPlan ms given shown → IsPrinted (Some printed) shown before (O.contents out.old) → EndsApply ms given answer result.0 before (O.contents out.new) (E.contents err.old) (E.contents err.new) }
 {
-    let workers = given.options.parallelism;
-    let answer = carry_out_plan(threads, rt.alloc(), planned, text, providers, workers, stop);
     let _ = log.sync();
     let status = show_rest(printed, &answer, out, err);
     match state_to_write(answer) {

@@ -14,9 +14,15 @@ mod recovery_status;
 mod taking;
 mod work;
 
-pub use applying::{carry_out, carry_out_logged};
+pub use applying::{carry_out_logged, end_apply, refuse};
 pub use approval::{Approval, Unasked};
-pub use laws::{what_a_cut_log_leaves_is_recovered, what_is_recovered_is_applied};
-pub use logging::{empty_log, finish_recovery, preview_recovery, start as start_log};
+pub use laws::{
+    what_a_cut_log_leaves_is_recovered, what_is_recovered_is_applied,
+    what_lines_are_kept_is_recovered,
+};
+pub use logging::{
+    ask_for_results, finish_recovery, is_retried, preview_recovery, start as start_log,
+};
+pub use planning::plan_given;
 pub use taking::Recovered;
-pub use work::print_plan;
+pub use work::{print_plan, shown_text};

@@ -1,11 +1,11 @@
 //! The log of an apply: the recovery before it, its first line, and its end.
 
 ghost use Rattle.std.specs.Process.{exit_status};
-ghost use Rattle.std.specs.Prelude.{◌≡◌, ◌≤◌, ◌⊎◌, IfErr, IfOk, IfSome, OnOk, map, option_map, string_bytes};
+ghost use Rattle.std.specs.Prelude.{◌≡◌, ◌≤◌, ◌↔◌, ◌⊎◌, IfErr, IfOk, IfSome, IsTrue, OnOk, map, option_map, string_bytes};
 ghost use Rattle.tf_cli_files.specs.Kept.{replaced_text};
 ghost use Rattle.tf_cli_files.specs.Program.{IsFailure};
 ghost use Rattle.tf_cli_program.specs.Work.{header_given};
-ghost use Rattle.tf_cli_program.specs.Recovery.{ContinuesFrom, IsInspected, IsReplaced};
+ghost use Rattle.tf_cli_program.specs.Recovery.{ContinuesFrom, IsInspected, IsReplaced, IsRetried};
 
 use crate::recovery_status::{RecoveryStatus, recovery_status};
 use std::alloc::{AllocError, Global};
@@ -17,19 +17,24 @@ use tf_cli_files::{
     LogFile, NotInPlace, Past, Place, ProgramInput, Settled, UNWRITTEN, empty, keep_state,
     sync_folder, tell_no_log, tell_no_memory,
 };
+use tf_cli_options::Options;
 use tf_provider::Provider;
 use tf_provider_log::{Header, NotStarted, OpenLog, Sink};
 
 /// The exit status if a call's result isn't known, so that somebody has to inspect it.
 const EXIT_INSPECT: u8 = 2;
 
+/// The word that says that the calls in flight weren't made.
+const RETRY: &str = "retry";
+
 /// Recovers the state that an unfinished apply left, writes it and empties the log. `given` then has that state in place of its
 /// own. The log is synced before the state is written, so that a loss of power leaves both or only the log.
 ///
 /// # Errors
 ///
-/// The program's status, which isn't 0, if the state can't be recovered or written, or if a call was begun whose result isn't
-/// known. The reason is then on standard error.
+/// The program's status, which isn't 0, if the state can't be recovered or written. Also if a call is in flight, unless the options
+/// say that such calls weren't made: that status is 2, and the state and the log stay as they are. The reason is then on standard
+/// error.
 pub fn finish_recovery<R: Files + AllocGlobal, O: Write, E: Write>(
     rt: &R,
     place: &Place,
@@ -43,22 +48,51 @@ pub fn finish_recovery<R: Files + AllocGlobal, O: Write, E: Write>(
 where
     R::File: LogFile,
     ensures from { IfOk result (λ _. ContinuesFrom (map meaning replayed.now) past.now given.old given.new) }
-    ensures into { IfOk result (λ _. IsInspected past.now given.old) }
+    ensures into { IfOk result (λ _. IsInspected past.now given.old.options) }
     ensures status { IfErr result (λ status. 1 ≤ exit_status status) }
 {
-    match recovery_status(rt.alloc(), place, given, past, replayed, err)? {
+    let status = recovery_status(rt.alloc(), place, given, past, replayed, err)?;
+    if !is_inspected(past, &given.options) {
+        return Err(ask_for_results(place, err));
+    }
+    match status {
         RecoveryStatus::After => empty_log(file, &Settled::UpToDate, place, err),
         RecoveryStatus::Before(state) => {
             let settled = replace_state(rt, place, file, state, out, err)?;
             empty_log(file, &settled, place, err)?;
             take_state(given, settled);
-            if past.in_flight.is_empty() {
-                Ok(())
-            } else {
-                Err(ExitCode::from(EXIT_INSPECT))
-            }
+            Ok(())
         }
     }
+}
+
+/// Returns whether no call is in flight, or the options say that the calls in flight weren't made.
+fn is_inspected(past: &Past, options: &Options) -> bool
+    ensures { IsTrue result → IsInspected past.now options.now }
+{
+    past.in_flight.is_empty() || is_retried(options)
+}
+
+/// Returns whether the options say that the calls in flight weren't made.
+pub fn is_retried(options: &Options) -> bool
+    ensures { IsTrue result ↔ IsRetried options.now }
+{
+    match &options.in_flight {
+        Some(word) => word.as_str() == RETRY,
+        None => false,
+    }
+}
+
+/// Prints that calls are in flight whose results somebody has to find out, and how to go on then. Returns the program's status.
+pub fn ask_for_results<E: Write>(place: &Place, err: &mut E) -> ExitCode
+    ensures { exit_status result ≡ 2 }
+{
+    let _ = writeln!(
+        err,
+        "error: {} has calls whose results are not known, so nothing is begun. Find out whether they were made. If none was, run apply with --in-flight retry; otherwise with --in-flight FILE, where FILE has their results",
+        place.log
+    );
+    ExitCode::from(EXIT_INSPECT)
 }
 
 /// Recovers the state that an unfinished apply left, and writes no file. `given` then has that state in place of its own.
@@ -110,7 +144,7 @@ where
     }
 }
 
-/// Puts the text by which the state file was replaced, if it was, in place of the given state.
+/// Replaces the given state by the text that is in the state file now, if recovery replaced the file.
 fn take_state(given: &mut ProgramInput, settled: Settled)
     ensures { IsReplaced (replaced_text settled) given.old given.new }
 {

@@ -18,7 +18,7 @@ use tf_provider::Provider;
 /// # Errors
 ///
 /// What `plan_text` refuses of it.
-pub(crate) fn plan_given(
+pub fn plan_given(
     alloc: Global,
     given: &ProgramInput,
     providers: &[Box<dyn Provider + Sync>],

@@ -11,7 +11,7 @@ use std::io::Write;
 use std::process::ExitCode;
 use tf_cli::Refused;
 use tf_cli_files::{
-    Past, Place, ProgramInput, tell_misfit, tell_no_memory, tell_past, tell_unrecovered,
+    Past, Place, ProgramInput, tell_calls, tell_misfit, tell_no_memory, tell_past, tell_unrecovered,
 };
 use tf_provider::Provider;
 
@@ -25,7 +25,7 @@ pub enum RecoveryStatus {
 }
 
 /// Recovers the state that an unfinished apply left, with providers that answer from its log, and compares the given state with
-/// it. If that is the state before the apply, prints what is recovered.
+/// it. If that is the state before the apply, prints what is recovered. Prints the calls in flight.
 ///
 /// # Errors
 ///
@@ -51,6 +51,7 @@ pub fn recovery_status<E: Write>(
         return Ok(RecoveryStatus::Before(state));
     }
     if state.is_some() && is_state(given, &state) {
+        tell_calls(alloc, past, err);
         return Ok(RecoveryStatus::After);
     }
     Err(tell_misfit(place, err))

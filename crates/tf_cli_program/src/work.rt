@@ -21,8 +21,8 @@ use tf_provider::Provider;
 const HAS_CHANGES: u8 = 2;
 
 /// Plans what `plan` was given, and prints the plan on standard output, in the form that the options ask for, or the refusals on
-/// standard error. `colours` are those of a plan with old values. Returns the status: 1 if the plan is refused; 2 if it has actions and the options ask for a detailed status;
-/// otherwise 0. A failed write changes no status.
+/// standard error. `colours` are those of a plan with old values. Returns the status: 1 if the plan is refused; 2 if it has actions
+/// and the options ask for a detailed status; otherwise 0. A failed write changes no status.
 pub fn print_plan<O: Write, E: Write>(
     alloc: Global,
     given: &ProgramInput,
@@ -92,7 +92,7 @@ fn form_of(
 }
 
 /// Returns the text that shows a plan, with the old values if the options ask for them. Refuses only if memory runs out.
-fn shown_text(
+pub fn shown_text(
     alloc: Global,
     options: &Options,
     colours: Colours,

@@ -1,7 +1,10 @@
 //! The requests that were sent and that have no reply yet.
 
-ghost use Rattle.std.specs.Prelude.{◌≡◌};
+ghost use Rattle.std.specs.Prelude.{◌≡◌, ◌<◌, ◌++◌, ◌∷◌, ◌==◌, [], IfSome, MatchOption, OnOk, length, slice_index_or};
+ghost use Rattle.tf_provider_protocol.specs.Meaning.{asked};
+ghost use Rattle.tf_provider_remote.specs.Flights.{IsTaken, has_call, is_call};
 
+use crate::results::is_same_text;
 use std::alloc::{AllocError, Global};
 use tf_provider_protocol::Request;
 
@@ -30,24 +33,32 @@ const MOST_BYTES: usize = 32_000;
 
 impl Flights {
     /// Builds an empty list.
-    pub fn new(alloc: Global) -> Flights {
+    pub fn new(alloc: Global) -> Flights
+        ensures { result.flights.items ≡ [] }
+    {
         Flights {
             flights: Vec::new(alloc),
         }
     }
 
     /// Returns how many requests are in flight.
-    pub fn len(&self) -> usize {
+    pub fn len(&self) -> usize
+        ensures { result ≡ length self.now.flights.items }
+    {
         self.flights.len()
     }
 
     /// Returns whether no request is in flight.
-    pub fn is_empty(&self) -> bool {
+    pub fn is_empty(&self) -> bool
+        ensures { result ≡ (length self.now.flights.items == 0) }
+    {
         self.flights.is_empty()
     }
 
     /// Returns the requests in flight.
-    pub fn list(&self) -> &[Flight] {
+    pub fn list(&self) -> &[Flight]
+        ensures { result.now ≡ self.now.flights.items }
+    {
         self.flights.as_slice()
     }
 
@@ -66,14 +77,30 @@ impl Flights {
         bytes <= MOST_BYTES
     }
 
+    /// Returns whether the same call is in flight: the same operation on the same object.
+    pub fn has(&self, request: &Request) -> bool
+        ensures { result ≡ has_call (asked request.now) self.now.flights.items }
+    {
+        for flight in &self.flights {
+            if is_call(request, &flight.request) {
+                return true;
+            }
+        }
+        false
+    }
+
     /// Adds a request that was sent.
-    pub fn add(&mut self, flight: Flight) -> Result<(), AllocError> {
+    pub fn add(&mut self, flight: Flight) -> Result<(), AllocError>
+        ensures { OnOk result (self.new.flights.items ≡ self.old.flights.items ++ flight ∷ []) }
+    {
         self.flights.push(flight)?;
         Ok(())
     }
 
-    /// Takes the request of this number, if it is in flight to this provider.
-    pub fn take(&mut self, provider: usize, id: u64) -> Option<Flight> {
+    /// Takes the request of this number, if it is in flight to this provider. The others stay, in their order.
+    pub fn take(&mut self, provider: usize, id: u64) -> Option<Flight>
+        ensures { MatchOption result (self.new ≡ self.old) (λ flight. (flight.id ≡ id) × (flight.provider ≡ provider) × IsTaken flight self.old.flights.items self.new.flights.items) }
+    {
         let place = place_of(self.flights.as_slice(), provider, id)?;
         if place < self.flights.len() {
             Some(self.flights.remove(place))
@@ -93,8 +120,19 @@ impl Flights {
     }
 }
 
+/// Returns whether two requests are the same call.
+fn is_call(one: &Request, other: &Request) -> bool
+    ensures { result ≡ is_call (asked one.now) (asked other.now) }
+{
+    one.op == other.op
+        && one.address.as_str() == other.address.as_str()
+        && is_same_text(&one.deposed, &other.deposed)
+}
+
 /// Returns the place of the request of this number, if it is in flight to this provider.
-fn place_of(flights: &[Flight], provider: usize, id: u64) -> Option<usize> {
+fn place_of(flights: &[Flight], provider: usize, id: u64) -> Option<usize>
+    ensures { IfSome result (λ place. (place < length flights.now) × ((d : Flight) → ((slice_index_or flights.now place d).id ≡ id) × ((slice_index_or flights.now place d).provider ≡ provider))) }
+{
     for (place, flight) in flights.iter().enumerate() {
         if flight.id == id && flight.provider == provider {
             return Some(place);

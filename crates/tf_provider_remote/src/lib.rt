@@ -8,11 +8,13 @@
 mod flights;
 mod lines;
 mod replies;
+mod results;
 mod schemas;
 mod types;
 
 pub use flights::{Flight, Flights};
 pub use lines::{Unsent, request_line};
 pub use replies::{Response, Responses, read_replies};
+pub use results::{CallResult, ResultsFault, read_results};
 pub use schemas::{SchemasFault, read_schemas};
 pub use types::{RemoteType, RemoteTypes};

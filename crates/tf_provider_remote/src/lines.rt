@@ -108,7 +108,7 @@ fn option_form(alloc: Global, value: &Option<Value>) -> Result<Json, Unsent>
 }
 
 /// Returns the word of an operation.
-fn op_word(op: Op) -> &'static str
+pub(crate) fn op_word(op: Op) -> &'static str
     ensures { result.now ≡ op_word op }
 {
     match op {

@@ -87,7 +87,7 @@ fn read_reply(alloc: Global, line: &[u8]) -> Result<Option<Response>, AllocError
 }
 
 /// Reads the JSON tree of a line.
-fn read_tree(alloc: Global, line: &[u8]) -> Result<Option<Json>, AllocError>
+pub(crate) fn read_tree(alloc: Global, line: &[u8]) -> Result<Option<Json>, AllocError>
     ensures { IfOk result (λ tree. option_map view tree ≡ tree_in line.now) }
 {
     match Json::from_slice(alloc, line) {
@@ -111,7 +111,7 @@ fn response_from(alloc: Global, json: &Json) -> Result<Option<Response>, AllocEr
 }
 
 /// Reads the reply that a tree says: a failure, an object, or that the object is gone.
-fn reply_from(alloc: Global, json: &Json) -> Result<Option<Reply>, AllocError>
+pub(crate) fn reply_from(alloc: Global, json: &Json) -> Result<Option<Reply>, AllocError>
     ensures { IfOk result (λ found. option_map answered found ≡ option_map Some (answer_from (view json.now))) }
 {
     match (json.get("failed"), json.get("object"), json.get("gone")) {

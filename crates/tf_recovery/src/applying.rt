@@ -4,6 +4,7 @@ use crate::approving::AtTerminal;
 use crate::explaining::{explains, sources, warn};
 use crate::outside::apply_outside;
 use crate::recovering::recover;
+use crate::settling::settle;
 use std::alloc::AllocError;
 use std::fs::File;
 use std::io::{IsTerminal, Stderr, Write};
@@ -44,6 +45,10 @@ pub fn apply<T: Threads + Wait + Sync, O: Write, E: Write>(
         place,
         past,
     } = seen;
+    let past = match settle(rt, &place, &file, &given, past, err) {
+        Ok(past) => past,
+        Err(status) => return Ok(status),
+    };
     let recovered = recover(rt, &place, &file, &mut given, past, out, err)?;
     if let Err(status) = recovered {
         return Ok(status);

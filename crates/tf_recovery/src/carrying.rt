@@ -13,10 +13,8 @@ use std::io::Write;
 use std::process::ExitCode;
 use std::sync::Wait;
 use tf_cli::{Applied, Refused, SaveFault, show_rest, state_to_write};
-use tf_cli_files::{
-    NotInPlace, Place, ProgramInput, Settled, UNWRITTEN, keep_state, tell_in_flight, tell_lost,
-};
-use tf_cli_program::empty_log;
+use tf_cli_files::{Place, ProgramInput, tell_in_flight};
+use tf_cli_program::{ask_for_results, end_apply};
 use tf_provider::Provider;
 use tf_provider_remote::RemoteTypes;
 
@@ -33,17 +31,23 @@ pub(crate) fn carried_out<T: Wait, E: Write>(
     ensures { IfOk result (λ answer. IsOutcome (outside_replayed (⟦<RemoteTypes as Provider>⟧.meaning session.new.types) (map log_entry_of session.new.entries.items)) given.now answer) }
 {
     for _ in threads.forever() {
-        let Walk { answer, wishes } = apply_over_log(rt, given, &session.types, &session.entries)?;
-        if session.is_finished(&wishes) {
+        let Walk { answer, unanswered } = apply_over_log(
+            rt,
+            given,
+            &session.types,
+            &session.entries,
+        )?;
+        if session.is_finished(&unanswered) {
             return Ok(answer);
         }
         drop(state_to_write(answer));
-        session.serve(rt, log, providers, given, wishes, err)?;
+        session.serve(rt, log, providers, given, unanswered, err)?;
     }
     unreachable!()
 }
 
-/// Prints what comes after the plan's text, writes the state if it changed, and empties the log. Prints which requests are still in flight.
+/// Ends an apply: prints what follows the plan's text, writes the state if it changed, and empties the log. If requests are still in
+/// flight, prints these and how to go on; the state and the log then stay as they are.
 pub(crate) fn finish<O: Write, E: Write>(
     rt: &HostRuntime,
     place: &Place,
@@ -55,26 +59,16 @@ pub(crate) fn finish<O: Write, E: Write>(
     out: &mut O,
     err: &mut E,
 ) -> ExitCode {
-    let _ = log.sync();
-    let status = show_rest(printed, &answer, out, err);
-    let (status, settled) = match state_to_write(answer) {
-        Some(text) => match keep_state(rt, place, text, out, err) {
-            Ok(in_place) => (status, Some(Settled::Replaced(in_place))),
-            Err(NotInPlace) => (UNWRITTEN, None),
-        },
-        None if status == UNWRITTEN => (status, None),
-        None => (status, Some(Settled::UpToDate)),
-    };
-    if log.is_lost() {
-        tell_lost(place.log.as_str(), err);
+    if session.flights.is_empty() {
+        return end_apply(rt, place, file, log, answer, printed, out, err);
     }
+    let _ = log.sync();
+    let _ = show_rest(printed, &answer, out, err);
+    drop(state_to_write(answer));
     for flight in session.flights.list() {
         tell_in_flight(rt.alloc(), &flight.request, err);
     }
-    if let Some(why) = settled {
-        let _ = empty_log(file, &why, place, err);
-    }
-    ExitCode::from(status)
+    ask_for_results(place, err)
 }
 
 /// Opens the pipes of each provider, in their order. If one can't be opened, prints that.

@@ -16,6 +16,7 @@ mod printing;
 mod recovering;
 mod remotes;
 mod session;
+mod settling;
 mod walking;
 
 pub use applying::apply;

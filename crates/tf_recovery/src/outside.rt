@@ -1,12 +1,13 @@
 //! The work of both programs with providers outside the program.
 
-use crate::approving::colours;
 use crate::carrying::{carried_out, check_pipes, finish, open_pipes};
-use crate::explaining::{explains, sources};
+use crate::explaining::{explains, sources, warn};
 use crate::own::{OwnEntries, entries_by_provider};
+use crate::planning::print_given;
 use crate::printing::{PrintedPlan, approved_plan};
 use crate::remotes::read_types;
 use crate::session::{ApplyLog, Session};
+use crate::settling::settle;
 use std::alloc::AllocError;
 use std::fs::File;
 use std::io;
@@ -15,7 +16,7 @@ use std::process::ExitCode;
 use std::sync::{Arc, Wait};
 use tf_cli_files::{CallControl, Past, Place, ProgramInput, Seen, hold, see};
 use tf_cli_options::Options;
-use tf_cli_program::{finish_recovery, preview_recovery, print_plan, start_log};
+use tf_cli_program::{finish_recovery, preview_recovery, start_log};
 use tf_explain::Explained;
 use tf_provider::Provider;
 use tf_provider_local::LocalFile;
@@ -46,27 +47,12 @@ pub(crate) fn plan_outside<O: Write, E: Write>(
     if let Err(status) = preview_outside(rt, &types, &place, &mut given, past, err)? {
         return Ok(status);
     }
-    print_given(rt, &types, &place, &given, out, err)
-}
-
-/// Prints the plan's text, or its drawing if the options ask for that.
-fn print_given<O: Write, E: Write>(
-    rt: &HostRuntime,
-    types: &RemoteTypes,
-    place: &Place,
-    given: &ProgramInput,
-    out: &mut O,
-    err: &mut E,
-) -> io::Result<ExitCode> {
     let alloc = rt.alloc();
     let mut providers: Vec<Box<dyn Provider + Sync>> = Vec::new(alloc);
-    providers.push(Box::new(alloc, types.share()?)?)?;
+    providers.push(Box::new(alloc, types)?)?;
     providers.push(Box::new(alloc, Sim::new(alloc)?)?)?;
     providers.push(Box::new(alloc, LocalFile::new(alloc, *rt)?)?)?;
-    let files = sources(given, place, providers.as_slice());
-    let mut err = Explained::new(alloc, err, explains(rt, given), files);
-    let status = print_plan(alloc, given, colours(rt), &providers, out, &mut err);
-    Ok(ExitCode::from(status))
+    Ok(print_given(rt, &place, &given, &providers, out, err))
 }
 
 /// Recovers the state that an unfinished apply left, if there is one, for a plan.
@@ -122,6 +108,10 @@ pub(crate) fn apply_outside<T: Wait, O: Write, E: Write>(
         place,
         past,
     } = seen;
+    let past = match settle(rt, &place, &file, &given, past, err) {
+        Ok(past) => past,
+        Err(status) => return Ok(status),
+    };
     let recovered = recover_outside(rt, &types, &place, &file, &mut given, past, out, err)?;
     if let Err(status) = recovered {
         return Ok(status);
@@ -187,6 +177,7 @@ fn apply_with<T: Wait, O: Write, E: Write>(
     providers.push(Box::new(alloc, local_file)?)?;
     let log_file: &File = &file;
     let files = sources(given, place, providers.as_slice());
+    warn(rt, given, files, err);
     let mut err = Explained::new(alloc, err, explains(rt, given), files);
     carry_out_outside(
         rt,

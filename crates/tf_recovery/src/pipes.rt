@@ -81,7 +81,7 @@ impl Pipe {
         })
     }
 
-    /// Writes the line of a request that the log says is begun.
+    /// Sends the line of a request. `Announced` shows that the log on the disk has the request as begun.
     pub(crate) fn send(&mut self, _announced: Announced<'_>, line: &str) -> Result<(), Loss> {
         match self.requests.write_all(line.as_bytes()) {
             Ok(()) => Ok(()),

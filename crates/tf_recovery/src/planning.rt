@@ -44,7 +44,10 @@ pub fn plan<O: Write, E: Write>(
     if let Err(status) = preview(rt, &place, &mut given, past, err)? {
         return Ok(status);
     }
-    print_given(rt, &place, &given, out, err)
+    let mut providers: Vec<Box<dyn Provider + Sync>> = Vec::new(rt.alloc());
+    providers.push(Box::new(rt.alloc(), Sim::new(rt.alloc())?)?)?;
+    providers.push(Box::new(rt.alloc(), LocalFile::new(rt.alloc(), *rt)?)?)?;
+    Ok(print_given(rt, &place, &given, &providers, out, err))
 }
 
 /// Checks that the options ask for one form of the plan. If they ask for two, prints that, and returns the program's status, 1.
@@ -68,21 +71,18 @@ fn check_forms<E: Write>(options: &Options, err: &mut E) -> Result<(), ExitCode>
     Ok(())
 }
 
-/// Prints the plan in the form that the options ask for.
-fn print_given<O: Write, E: Write>(
+/// Prints the warnings, and the plan with these providers in the form that the options ask for.
+pub(crate) fn print_given<O: Write, E: Write>(
     rt: &HostRuntime,
     place: &Place,
     given: &ProgramInput,
+    providers: &[Box<dyn Provider + Sync>],
     out: &mut O,
     err: &mut E,
-) -> io::Result<ExitCode> {
-    let mut providers: Vec<Box<dyn Provider + Sync>> = Vec::new(rt.alloc());
-    providers.push(Box::new(rt.alloc(), Sim::new(rt.alloc())?)?)?;
-    providers.push(Box::new(rt.alloc(), LocalFile::new(rt.alloc(), *rt)?)?)?;
-    let files = sources(given, place, providers.as_slice());
+) -> ExitCode {
+    let files = sources(given, place, providers);
     warn(rt, given, files, err);
     let mut err = Explained::new(rt.alloc(), err, explains(rt, given), files);
-    let colours = colours(rt);
-    let status = print_plan(rt.alloc(), given, colours, &providers, out, &mut err);
-    Ok(ExitCode::from(status))
+    let status = print_plan(rt.alloc(), given, colours(rt), providers, out, &mut err);
+    ExitCode::from(status)
 }

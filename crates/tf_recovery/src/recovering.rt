@@ -18,8 +18,8 @@ use tf_provider_log::LogEntry;
 use tf_provider_sim::Sim;
 
 /// Recovers the state that an unfinished apply left, if there is one, writes it and empties the log, which is `file`: `given`
-/// then has that state in place of its own. Returns the program's status if the program can't continue, or if a call was begun
-/// whose result isn't known; the reason is then on standard error.
+/// then has that state in place of its own. Returns the program's status if the program can't continue, or if a call is in flight
+/// and the options don't say that it wasn't made; the reason is then on standard error.
 ///
 /// # Errors
 ///
@@ -35,7 +35,7 @@ pub fn recover<O: Write, E: Write>(
 ) -> Result<Result<(), ExitCode>, AllocError>
     ensures none { past ≡ None → IsOk result × IfOk result (λ answer. IsOk answer) × (given.new ≡ given.old) }
     ensures recovered { IfOk result (λ answer. IfOk answer (λ _. IfSome past (λ log. ContinuesFrom (replayed_from (map log_entry_of log.1.items)) log.0 given.old given.new))) }
-    ensures looked { IfOk result (λ answer. IfOk answer (λ _. IfSome past (λ log. IsInspected log.0 given.old))) }
+    ensures looked { IfOk result (λ answer. IfOk answer (λ _. IfSome past (λ log. IsInspected log.0 given.old.options))) }
 {
     match past {
         None => Ok(Ok(())),
@@ -57,7 +57,7 @@ fn recover_replayed<O: Write, E: Write>(
     err: &mut E,
 ) -> Result<Result<(), ExitCode>, AllocError>
     ensures recovered { IfOk result (λ answer. IfOk answer (λ _. ContinuesFrom (replayed_from (map log_entry_of entries.items)) past.now given.old given.new)) }
-    ensures looked { IfOk result (λ answer. IfOk answer (λ _. IsInspected past.now given.old)) }
+    ensures looked { IfOk result (λ answer. IfOk answer (λ _. IsInspected past.now given.old.options)) }
 {
     let alloc = rt.alloc();
     let own = own_entries(rt, entries)?;

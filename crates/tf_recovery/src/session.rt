@@ -1,10 +1,8 @@
 //! The calls of an apply with providers outside the program.
 
-ghost use Rattle.std.specs.List.{list_any};
-ghost use Rattle.std.specs.Prelude.{◌≡◌, false, map};
-ghost use Rattle.tf_provider_log.specs.LogEntry.{log_entry_of};
-ghost use Rattle.tf_provider_log.specs.Replayed.{is_about};
+ghost use Rattle.std.specs.Prelude.{◌≡◌, false};
 ghost use Rattle.tf_provider_protocol.specs.Meaning.{asked};
+ghost use Rattle.tf_recovery.specs.Begun.{IsNew};
 
 use crate::pipes::{Loss, Pipe};
 use std::alloc::{AllocError, Global};
@@ -13,7 +11,7 @@ use std::fs::File;
 use std::io::Write;
 use tf_cli_files::{LogSink, ProgramInput};
 use tf_provider::{Provider, Reply, Request, first_provider};
-use tf_provider_log::{LogEntry, OpenLog, copy_request, is_begun};
+use tf_provider_log::{LogEntry, OpenLog, is_begun};
 use tf_provider_remote::{Flight, Flights, RemoteTypes, Response, Unsent, request_line};
 
 /// The log of an apply.
@@ -24,7 +22,7 @@ pub(crate) type ApplyLog = OpenLog<LogSink<File>>;
 pub(crate) struct Session {
     /// The types of the providers outside the program.
     pub(crate) types: RemoteTypes,
-    /// The lines of the log after the first.
+    /// The calls that ended, with their replies.
     pub(crate) entries: Vec<LogEntry>,
     /// What was sent and has no reply yet.
     pub(crate) flights: Flights,
@@ -65,19 +63,26 @@ impl Session {
     }
 
     /// Returns whether no call is to be begun, and no reply can come any more.
-    pub(crate) fn is_finished(&self, wishes: &[Request]) -> bool {
+    pub(crate) fn is_finished(&self, unanswered: &[Request]) -> bool {
         self.flights.next_provider(&self.lost).is_none()
-            && (self.is_closed || !self.has_new(wishes))
+            && (self.is_closed || !self.has_new(unanswered))
     }
 
     /// Returns whether a request isn't begun.
-    fn has_new(&self, wishes: &[Request]) -> bool {
-        for wish in wishes {
-            if !is_begun(&self.entries, wish) {
+    fn has_new(&self, unanswered: &[Request]) -> bool {
+        for request in unanswered {
+            if !self.has_begun(request) {
                 return true;
             }
         }
         false
+    }
+
+    /// Returns whether a request is in flight or has ended.
+    fn has_begun(&self, request: &Request) -> bool
+        ensures { result ≡ false → IsNew (asked request.now) self.now }
+    {
+        self.flights.has(request) || is_begun(&self.entries, request)
     }
 
     /// Makes the calls that aren't begun, and takes replies.
@@ -87,21 +92,20 @@ impl Session {
         log: &ApplyLog,
         providers: &[Box<dyn Provider + Sync>],
         given: &ProgramInput,
-        wishes: Vec<Request>,
+        unanswered: Vec<Request>,
         err: &mut E,
     ) -> Result<(), AllocError> {
         let folders = given.options.providers.as_slice();
-        for wish in wishes {
+        for request in unanswered {
             if is_stopped(rt, &given.options.stop_file) {
                 self.is_closed = true;
             }
-            if !self.is_closed && !is_begun(&self.entries, &wish) {
-                match self.types.provider_of(wish.type_name.as_str()) {
-                    Some(provider) => {
-                        self.send(rt, log, folders, provider, wish, err)?;
-                    }
-                    None => self.call(log, providers, wish)?,
-                }
+            if self.is_closed {
+                break;
+            }
+            match self.types.provider_of(request.type_name.as_str()) {
+                Some(provider) => self.send(rt, log, folders, provider, request, err)?,
+                None => self.call(log, providers, request)?,
             }
         }
         let enough = 1 + self.entries.len() / 200;
@@ -118,6 +122,9 @@ impl Session {
         providers: &[Box<dyn Provider + Sync>],
         request: Request,
     ) -> Result<(), AllocError> {
+        if self.has_begun(&request) {
+            return Ok(());
+        }
         let reply = match first_provider(providers, request.type_name.as_str()) {
             Some(provider) => provider.apply(&request),
             None => Reply::NoMemory,
@@ -129,7 +136,7 @@ impl Session {
         Ok(())
     }
 
-    /// Sends a request to its provider, once there is room for it.
+    /// Sends a request to its provider, once few enough requests are in flight. Doesn't send it if it is begun already.
     fn send<E: Write>(
         &mut self,
         rt: &HostRuntime,
@@ -154,7 +161,7 @@ impl Session {
         if self.is_closed {
             return Ok(());
         }
-        if is_begun(self.entries.as_slice(), &request) {
+        if self.has_begun(&request) {
             return Ok(());
         }
         self.begin(alloc, log, folders, provider, request, line, err)
@@ -167,7 +174,7 @@ impl Session {
         Ok(())
     }
 
-    /// Writes that a request is begun, and then its line. No entry is about this request, so it wasn't sent before.
+    /// Writes that a request is begun, and then its line. It is neither in flight nor ended, so it wasn't sent before.
     fn begin<E: Write>(
         &mut self,
         alloc: Global,
@@ -178,9 +185,8 @@ impl Session {
         line: String,
         err: &mut E,
     ) -> Result<(), AllocError>
-        requires { list_any (is_about (asked request)) (map log_entry_of self.old.entries.items) ≡ false }
+        requires { IsNew (asked request) self.old }
     {
-        let copy = copy_request(alloc, &request)?;
         let Ok(announced) = log.announce(alloc, &request) else {
             self.is_closed = true;
             return Ok(());
@@ -189,7 +195,6 @@ impl Session {
             Some(pipe) => pipe.send(announced, line.as_str()),
             None => Err(Loss::Unwritten),
         };
-        self.entries.push(LogEntry::Begun(copy))?;
         let id = self.next_id;
         self.next_id = id.saturating_add(1);
         self.flights.add(Flight {

@@ -21,7 +21,7 @@ pub(crate) struct Walk {
     /// The answer.
     pub(crate) answer: Result<Applied, Refused>,
     /// The requests without an answer.
-    pub(crate) wishes: Vec<Request>,
+    pub(crate) unanswered: Vec<Request>,
 }
 
 /// Applies what was given with providers that answer from their own entries of the log. Calls no other provider.
@@ -57,7 +57,7 @@ pub(crate) fn apply_over_log(
         &Stop::new(),
     );
     match notes.requests(alloc) {
-        Ok(wishes) => Ok(Walk { answer, wishes }),
+        Ok(unanswered) => Ok(Walk { answer, unanswered }),
         Err(AllocError) => {
             drop(state_to_write(answer));
             Err(AllocError)

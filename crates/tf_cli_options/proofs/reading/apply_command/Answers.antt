@@ -5,9 +5,10 @@ use Rattle.clap.specs.Words.{with_rule}
 use Rattle.tf_cli_options.proofs.reading.apply_command.Goals as goal
 
 pub returns : goal.returns
-returns c = IfOk-weaker c.arg-3.result _ _
-    (λ r adds. adds.shape c.option.ensures.local
+returns c = IfOk-weaker c.arg-4.result _ _
+    (λ r adds. adds.shape c.option-2.ensures.local
+    ∙ ap₂ with_rule (c.in_ok-arg-3.ensures.shape c.option.ensures.local
     ∙ ap₂ with_rule (c.in_ok-arg-2.ensures.shape c.flag_option.ensures.local
     ∙ ap₂ with_rule (c.in_ok-arg.ensures.shape c.progress_option.ensures.local
-    ∙ ap₂ with_rule c.in_ok-shared_command.ensures c.progress_option.ensures.rule) c.flag_option.ensures.rule) c.option.ensures.rule)
-    c.arg-3.ensures
+    ∙ ap₂ with_rule c.in_ok-shared_command.ensures c.progress_option.ensures.rule) c.flag_option.ensures.rule) c.option.ensures.rule) c.option-2.ensures.rule)
+    c.arg-4.ensures

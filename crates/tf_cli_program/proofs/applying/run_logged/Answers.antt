@@ -1,6 +1,7 @@
 use Rattle.std.proofs.Common.{inl, inr, map, option_map, string_bytes}
 use Rattle.std.specs.Prelude.{unwrap_or}
-use Rattle.tf_cli_program.proofs.Worked.{at_most}
+use Rattle.tf_cli_program.proofs.Worked.{at_most, is_answer}
+use Rattle.tf_plan_data.specs.Plan.{plan_of}
 use Rattle.tf_cli_program.proofs.applying.run_logged.Goals as goal
 
 pub returns-in-Err : goal.returns-in-Err
@@ -9,12 +10,10 @@ returns-in-Err g c = λ before is.
 
 pub returns : goal.returns
 returns g c = λ before is.
-    let ended = c.carry_out-status.ensures in
+    let ms = map (λ b. (goal.Provider-dyn g (b.vtable, b.value)).meaning b.value) c.args.providers.now in
     inr (
-      ended.0,
-      c.carry_out-status.result.0,
-      g.E.Write.contents c.carry_out-status.new.err,
-      ended.1,
-      rw (← c.in_default.ensures.quiet) (ended.3 before c.shown_of.result.now (rw c.shown_of.ensures c.requires.shows) (c.print_text-printed.ensures before (rw c.shown_of.ensures is))),
-      c.from.ensures,
+      c.carry_out-answer.result,
+      is_answer ms c.args.given.now (plan_of c.args.planned.now) c.requires.planned c.carry_out-answer.result
+          c.carry_out-answer.ensures.carried_out c.carry_out-answer.ensures.workers c.carry_out-answer.ensures.refused,
+      rw (← c.in_default.ensures.quiet) (c.end_apply.ensures ms c.args.given.now before c.shown_of.result.now (rw c.shown_of.ensures c.requires.shows) (c.print_text-printed.ensures before (rw c.shown_of.ensures is))),
     )

@@ -1,0 +1,168 @@
+//! The results of calls that were in flight when an apply ended.
+
+use std::alloc::{AllocError, Global};
+use std::fs::File;
+use std::io::{ErrorKind, Write};
+use std::process::ExitCode;
+use std::{fmt, fs, io};
+use tf_cli_files::{
+    LineFile, Past, Place, ProgramInput, see_past, tell_no_log, tell_no_memory, tell_unread,
+};
+use tf_cli_lines::verb_text;
+use tf_cli_program::is_retried;
+use tf_provider_log::{LogEntry, Unwritten, answered_line};
+use tf_provider_protocol::Request;
+use tf_provider_remote::{CallResult, ResultsFault, read_results};
+
+/// Adds the results of the calls in flight to the log of an unfinished apply, if the options name a file of them, and returns what
+/// the log records then. If the file isn't of exactly these calls, prints that and returns the program's status, 1; the log then
+/// stays as it is.
+pub(crate) fn settle<E: Write>(
+    rt: &HostRuntime,
+    place: &Place,
+    file: &File,
+    given: &ProgramInput,
+    past: Option<(Past, Vec<LogEntry>)>,
+    err: &mut E,
+) -> Result<Option<(Past, Vec<LogEntry>)>, ExitCode> {
+    let in_flight = match &past {
+        Some((past, _)) => past.in_flight.as_slice(),
+        None => &[],
+    };
+    match &given.options.in_flight {
+        Some(name) if !in_flight.is_empty() && !is_retried(&given.options) => {
+            add_results(rt, place, file, name.as_str(), in_flight, err)?;
+            see_past(rt, place, err)
+        }
+        _ => Ok(past),
+    }
+}
+
+/// Adds the results in a file to the log, and syncs it. If the file isn't of exactly the calls in flight, prints that.
+fn add_results<E: Write>(
+    rt: &HostRuntime,
+    place: &Place,
+    file: &File,
+    name: &str,
+    in_flight: &[Request],
+    err: &mut E,
+) -> Result<(), ExitCode> {
+    let Ok(text) = fs::read(rt, name) else {
+        return Err(tell_unread(name, err));
+    };
+    match answers(rt.alloc(), text.as_slice(), in_flight) {
+        Ok(lines) => match append(rt, place, file, lines.as_str()) {
+            Ok(()) => Ok(()),
+            Err(_) => Err(tell_no_log(place.log.as_str(), err)),
+        },
+        Err(Misfit::OutOfMemory) => Err(tell_no_memory(err)),
+        Err(fault) => {
+            let _ = writeln!(err, "error: {name}: {fault}");
+            Err(ExitCode::FAILURE)
+        }
+    }
+}
+
+/// Why a file doesn't have the results of the calls in flight.
+#[derive(Drop)]
+enum Misfit<'a> {
+    /// A line isn't a result.
+    NotAResult(usize),
+    /// A line has the result of a call that isn't in flight, or that has its result already.
+    NotInFlight(usize),
+    /// A line has a value that is nested too deep.
+    TooDeep(usize),
+    /// No line has the result of this call.
+    Missing(&'a Request),
+    /// Memory ran out.
+    OutOfMemory,
+}
+
+impl From<AllocError> for Misfit<'_> {
+    fn from(_: AllocError) -> Self {
+        Misfit::OutOfMemory
+    }
+}
+
+impl fmt::Display for Misfit<'_> {
+    fn fmt<W: fmt::Write>(&self, f: &mut fmt::Formatter<W>) -> fmt::Result {
+        match self {
+            Misfit::NotAResult(line) => write!(f, "line {line}: not a result"),
+            Misfit::NotInFlight(line) => { write!(f, "line {line}: no such call is in flight") }
+            Misfit::TooDeep(line) => write!(f, "line {line}: nested too deep"),
+            Misfit::Missing(request) => {
+                let verb = verb_text(&Some(request.op));
+                write!(f, "no result of {}{verb}", request.address)
+            }
+            Misfit::OutOfMemory => write!(f, "out of memory"),
+        }
+    }
+}
+
+/// Returns the log's lines of the results in a text: exactly one for each call in flight.
+fn answers<'a>(alloc: Global, text: &[u8], in_flight: &'a [Request]) -> Result<String, Misfit<'a>> {
+    let results = match read_results(alloc, text) {
+        Ok(results) => results,
+        Err(ResultsFault::Line(line)) => return Err(Misfit::NotAResult(line)),
+        Err(ResultsFault::OutOfMemory) => return Err(Misfit::OutOfMemory),
+    };
+    for request in in_flight {
+        if !results.iter().any(|(_, found)| found.is_of(request)) {
+            return Err(Misfit::Missing(request));
+        }
+    }
+    let mut lines = String::new(alloc);
+    for (at, (line, found)) in results.iter().enumerate() {
+        let Some(request) = asked_of(in_flight, found) else {
+            return Err(Misfit::NotInFlight(*line));
+        };
+        if results
+            .iter()
+            .take(at)
+            .any(|(_, earlier)| earlier.is_of(request))
+        {
+            return Err(Misfit::NotInFlight(*line));
+        }
+        match answered_line(alloc, request, &found.reply) {
+            Ok(text) => add(&mut lines, text.as_str())?,
+            Err(Unwritten::OutOfMemory) => return Err(Misfit::OutOfMemory),
+            Err(Unwritten::Unfit) => return Err(Misfit::TooDeep(*line)),
+        }
+    }
+    Ok(lines)
+}
+
+/// Returns the request that this is the result of, if there is one.
+fn asked_of<'a>(in_flight: &'a [Request], found: &CallResult) -> Option<&'a Request> {
+    in_flight.iter().find(|request| found.is_of(request))
+}
+
+/// Adds a text at the end.
+fn add(lines: &mut String, text: &str) -> Result<(), AllocError> {
+    lines.push_str(text)?;
+    Ok(())
+}
+
+/// Appends whole lines to a log and syncs it. What follows its last whole line was cut off when an apply ended, and is removed.
+fn append(rt: &HostRuntime, place: &Place, file: &File, lines: &str) -> io::Result<()> {
+    let bytes = fs::read(rt, place.log.as_str())?;
+    let whole = whole_lines(bytes.as_slice());
+    if whole < bytes.len() {
+        file.set_len(whole as u64)?;
+    }
+    if LineFile::append(file, lines.as_bytes())? < lines.len() {
+        return Err(io::Error::from(ErrorKind::WriteZero));
+    }
+    file.sync_data()
+}
+
+/// Returns how many bytes the whole lines of a text have, with their newlines.
+fn whole_lines(bytes: &[u8]) -> usize {
+    let mut whole = 0;
+    for (index, byte) in bytes.iter().enumerate() {
+        if *byte == b'\n' {
+            whole = index + 1;
+        }
+    }
+    whole
+}
