@@ -2,9 +2,7 @@
 """A provider of tables and rows in an SQLite database, the file that SQLITE_FILE names, or notes.db."""
 import os
 import sqlite3
-import sys
 
-sys.path.insert(0, os.path.join(os.path.dirname(os.path.realpath(__file__)), "../../sdk/python"))
 from bixundor import Failed, provider, resource
 
 FILE = os.environ.get("SQLITE_FILE", "notes.db")

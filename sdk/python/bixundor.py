@@ -15,10 +15,12 @@
 
 An attribute is described by words: `string`, `number`, `bool` or `any`, with `!` behind it if the configuration has to set
 it; `force_new` if a change of it replaces the object; `computed` if the provider sets it. `want` has every attribute, with
-None for those that aren't set and for the computed ones that aren't known yet. `raise Failed("message")` says that the
-request failed and that no object is there; `raise Failed("message", left={..})` says which object is there in spite of it.
-Any other exception is a failure with the prior object, as if nothing was done.
+None for those that aren't set and for the computed ones that aren't known yet. `address()` returns the resource's address.
+
+`raise Failed("message")` says that the request failed and nothing was done: the state doesn't change. `raise Failed("message",
+left={..})` says which object is there now. Any other exception is a failure with which nothing was done.
 """
+import contextvars
 import json
 import os
 import sys
@@ -26,14 +28,20 @@ import threading
 import traceback
 
 KINDS = ("string", "number", "bool", "any")
+current = contextvars.ContextVar("request")
 
 
 class Failed(Exception):
-    """A request failed. `left` has the attributes of the object that is there, if one is."""
+    """A request failed. `left` has the attributes of the object that is there now; without it, nothing was done."""
 
     def __init__(self, message, left=None):
         super().__init__(message)
         self.message, self.left = message, left
+
+
+def address():
+    """Returns the address of the resource that a request is about, such as `note.a`."""
+    return current.get()["address"]
 
 
 def attribute(words):
@@ -62,21 +70,28 @@ def resource(name, version=0, /, **attributes):
     return named
 
 
+def whole(served, made):
+    """Returns an object with None for each attribute that isn't given."""
+    return {key: made.get(key) for key in served.schema["block"]["attributes"]} | made
+
+
 def answer(served, request):
     """Returns the reply to a request, without its number."""
+    current.set(request)
+    op, prior, want = request["op"], request["prior"], request["object"]
     try:
-        op, prior, want = request["op"], request["prior"], request["object"]
         if op == "destroy":
             served.destroy(prior)
             return {"gone": True}
         made = served.create(want) if op == "create" else served.update(prior, want)
-        attributes = served.schema["block"]["attributes"]
-        return {"object": {key: made.get(key) for key in attributes} | made}
+        if not isinstance(made, dict):
+            raise TypeError(f"{op} returned no object but {made!r}")
+        return {"object": whole(served, made)}
     except Failed as failed:
-        return {"failed": failed.message, "object": failed.left}
+        return {"failed": failed.message, "object": failed.left and whole(served, failed.left)}
     except Exception as error:
         traceback.print_exc()
-        return {"failed": f"{type(error).__name__}: {error}", "object": request["prior"]}
+        return {"failed": f"{type(error).__name__}: {error}", "object": prior}
 
 
 class Pipe:
