@@ -1,7 +1,7 @@
 #!/usr/bin/env bash
-# Builds the program of a bench over the crates that it stands on, in a folder of its own, runs it, and prints for each
-# thing that it timed the best speed and its ratio to that of serde_json, which reads a JSON text in the same run.
-# Wants `rt`. beside_json.sh FOLDER ORDER LINE..: the folder with the program, the order of the rows, and for each crate
+# Builds the program of a bench with the crates that it uses, in a folder of its own, runs it, and prints for each
+# thing that it timed the best speed and the ratio to that of serde_json, which reads a JSON text in the same run.
+# Needs `rt`. beside_json.sh FOLDER ORDER LINE..: the folder with the program, the order of the rows, and for each crate
 # that is needed a line of crates.txt; the last line is that of the program, bench_FOLDER.
 set -euo pipefail
 here="$(cd "$(dirname "$0")" && pwd)"

@@ -1,7 +1,7 @@
 #!/usr/bin/env bash
-# Times tf_claim's shared claims beside a plain C++ program over std::atomic that does the same, on 1, 2 and 4 threads
-# over graphs of three shapes, and prints the nanoseconds of both for each action and their ratio. Then the three
-# layouts of the C++ program's words. Wants `rt` and `g++`; works in a folder of its own.
+# Times tf_claim's shared claims and a plain C++ program with std::atomic that does the same, on 1, 2 and 4 threads
+# with graphs of three shapes, and prints the nanoseconds of both for each action and their ratio. Then it times the
+# three layouts of the C++ program's words. Needs `rt` and `g++`; works in a folder of its own.
 set -euo pipefail
 here="$(cd "$(dirname "$0")" && pwd)"
 work="$(mktemp -d)"

@@ -1,5 +1,5 @@
 #!/usr/bin/env bash
-# Times the evaluation of templates by tf_expr_eval beside the kit's serde_json reading a JSON text, in one run of one program.
+# Times the evaluation of templates by tf_expr_eval, and the kit's serde_json reading a JSON text, in one run of one program.
 exec "$(dirname "$0")/beside_json.sh" evaluation "short long join concat json" \
     'tf_config_address:' \
     'tf_value_data:' \

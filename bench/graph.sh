@@ -1,6 +1,6 @@
 #!/usr/bin/env bash
-# Times tf_graph beside a plain C++ program that makes the same calls, on graphs of five shapes, and prints both
-# times and their ratio. Wants `rt` and `g++`; works in a folder of its own.
+# Times tf_graph and a plain C++ program that makes the same calls, on graphs of five shapes, and prints both times
+# and their ratio. Needs `rt` and `g++`; works in a folder of its own.
 set -euo pipefail
 here="$(cd "$(dirname "$0")" && pwd)"
 work="$(mktemp -d)"

@@ -1,7 +1,7 @@
 #!/usr/bin/env bash
-# Times applies by the provider sim of 500 and 2,000 blocks in layers, without a log and with one, in the same run; the log is in
-# memory (/dev/shm), so that what it costs beside the disk is seen. Prints the best of seven times each and the ratio. Wants `rt` and `python3`; works
-# in a copy of the repository, of which what is proved and built is taken over, and the rest proved and built first.
+# Times applies by the provider sim of 500 and 2,000 blocks in layers, without a log and with one, in the same run. The log is in
+# memory (/dev/shm), so that the figures show its cost without a disk. Prints the best of seven times each and the ratio. Needs `rt`
+# and `python3`; works in a copy of the repository, with its proved and built crates, and first proves and builds the rest.
 set -euo pipefail
 here="$(cd "$(dirname "$0")" && pwd)"
 work="$(mktemp -d)"

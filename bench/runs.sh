@@ -1,8 +1,8 @@
 #!/usr/bin/env bash
-# Times whole plans and applies by the provider sim, from text to text, beside serde_json's parse of the same
-# configuration and prior state and print of the same state in the same run, for configurations of several sizes, and
-# for what is changed of them. Prints the best of three times each and the ratio. Wants `rt` and `python3`; works in a copy of the repository, of which what is proved
-# and built is taken over, and the rest proved and built first.
+# Times whole plans and applies by the provider sim, from text to text, for configurations of several sizes and for changes
+# of them; and in the same run serde_json's parse of the same configuration and prior state and print of the same state.
+# Prints the best of three times each and the ratio. Needs `rt` and `python3`; works in a copy of the repository, with its
+# proved and built crates, and first proves and builds the rest.
 set -euo pipefail
 here="$(cd "$(dirname "$0")" && pwd)"
 work="$(mktemp -d)"
@@ -16,7 +16,7 @@ program="$work/repo/crates/bench_runs/out/bench_runs"
 python3 "$here/runs/make.py" independent 1 > "$work/config"
 (cd "$work/repo/crates/bench_runs" && rt run < "$work/config") > "$work/log" 2>&1 || { tail -20 "$work/log"; exit 1; }
 printf '%-18s %6s %8s %8s %10s %10s %10s %7s\n' shape blocks bytes state 'json (us)' 'plan (us)' 'apply (us)' ratio
-# Times one configuration, or what is changed of it, with so many blocks.
+# Times one configuration with the given number of blocks, or a change of it.
 row() {
     local shape="$1" blocks="$2" change="${3:-}"
     python3 "$here/runs/make.py" "$shape" "$blocks" $change > "$work/config"

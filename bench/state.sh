@@ -1,8 +1,8 @@
 #!/usr/bin/env bash
-# Times tf_state's read and write beside serde_json's parse and print of the same text, for states of several shapes,
-# and prints the best of three times each and the ratio, and the most memory in bytes that a run of either alone held,
-# the text in it. Wants `rt` and `python3`; works in a folder of its own.
-# With an argument, the least size of the texts in MB; 40 without.
+# Times tf_state's read and write, and serde_json's parse and print of the same text, for states of several shapes.
+# Prints the best of three times each and the ratio, and the most memory in bytes that a run of either alone used,
+# including the text. Needs `rt` and `python3`; works in a folder of its own.
+# The argument is the least size of the texts in MB; without one, it is 40.
 set -euo pipefail
 here="$(cd "$(dirname "$0")" && pwd)"
 megabytes="${1:-40}"

@@ -1,8 +1,8 @@
 #!/usr/bin/env bash
-# Times the walk of plans by 1, 2 and 4 workers beside a plain loop of threads in C++ that steal work from one another over
-# the same graph, with calls that answer at once and calls that take 50 microseconds. Prints the nanoseconds of both for each
-# action, their ratio, and of both how long a walk takes beside that of one worker. Wants `rt`, `g++` and `python3`; works in a copy
-# of the repository, of which what is proved and built is taken over, and the rest proved and built first.
+# Times the walk of plans by 1, 2 and 4 workers, and a plain loop of threads in C++ that steal work from one another over the
+# same graph, with calls that answer at once and calls that take 50 microseconds. Prints the nanoseconds of both for each
+# action, their ratio, and for both how long a walk takes compared with one worker. Needs `rt`, `g++` and `python3`; works in a
+# copy of the repository, with its proved and built crates, and first proves and builds the rest.
 set -euo pipefail
 here="$(cd "$(dirname "$0")" && pwd)"
 work="$(mktemp -d)"

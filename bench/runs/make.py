@@ -1,19 +1,19 @@
-"""Prints a configuration of so many instances: SHAPE COUNT. With a CHANGE behind it prints two configurations, with a
-line between them: what was applied before, and what is to be applied then.
+"""Prints a configuration with COUNT instances: SHAPE COUNT. SHAPE COUNT CHANGE prints two configurations, with a line
+between them: the one that is applied first, and the one that is applied after it.
 
-independent    hosts that refer to nothing, each with an argument that is worked out
+independent    hosts that refer to nothing, each with an argument that has to be evaluated
 counted        hosts of one resource, by their number
 chains         chains of a hundred hosts, each of which names the one before it
 layers         eight layers of hosts, each of which names ten of the layer before it
 pairs          half of the hosts after all of the other half, by `depends_on`
-indexed        the same, where each names one of the other half by its index
+indexed        the same, but each names one of the other half by its index
 locals         hosts that name the last of 64 locals, each of which names the one before it twice
 part           hosts each of which names a part of one local, whose value takes 900 KB in all
 
 nothing        the same twice
 updated        another size of each host
-replaced       another name of each host, which is destroyed and created anew
-swapped        the same, where each host is created anew before the old one is destroyed
+replaced       another name of each host, which is destroyed and then created
+swapped        the same, but each new host is created before the old one is destroyed
 destroyed      no host
 """
 import json

@@ -1,4 +1,4 @@
-"""Prints the text of a state of a shape, of about so many MB as it is written."""
+"""Prints the text of a state of a shape, with about the given number of MB."""
 import json
 import random
 import sys
