@@ -1,5 +1,5 @@
-"""The sources that lie outside crates/, since nobody proves them: the programs of tools/programs, and the tests. To compile one, a
-tool copies the repository and places it among the crates of the copy."""
+"""The sources that are outside crates/, since nobody proves them: the programs of tools/programs, and the tests. To compile one, a
+tool copies the repository and adds it to the crates of the copy."""
 import os
 import shutil
 import signal
@@ -13,13 +13,13 @@ ENDING = ".rt.txt"
 
 
 def source_of(name):
-    """Returns the folder with the sources of a program or a library that lies outside crates/, or None."""
+    """Returns the folder with the sources of a program or a library outside crates/, or None."""
     return next((f"{it}/{name}" for it in FOLDERS if os.path.isfile(f"{it}/{name}/libraries.txt")), None)
 
 
 def place(room, name):
-    """Copies the repository into a room, adds a program or a library to its crates, with those that it uses, and returns its
-    folder there."""
+    """Copies the repository into a folder, adds a program or a library to the crates of the copy, with those that it uses, and returns
+    its folder there."""
     copy = f"{room}/repository"
     shutil.copytree(ROOT, copy, ignore=lambda at, names: {it for it in names if it in (".git", "out", "must-fail")})
     os.mkdir(f"{copy}/.git")
@@ -56,8 +56,8 @@ def take_back(folder):
 
 
 def start_trying(words, **how):
-    """Starts `rt try` with these words. Beside the compiler it starts a check that only looks for names that a proof can't have,
-    and takes as long as the compiler: that check is ended."""
+    """Starts `rt try` with these words. `rt try` also starts a check that only looks for names that a proof can't have and takes as long
+    as the compiler. This function ends that check."""
     ran = subprocess.Popen(["rt", "try", *words], **how)
     threading.Thread(target=end_name_check, args=(ran,), daemon=True).start()
     return ran

@@ -1,13 +1,13 @@
 """What a check of a crate sees of the crates below it: their statements, as far as it names them.
 
-Statements are types, traits, constants, what is said of types for contracts, and the signatures of public functions with their
-clauses; `specs/`; and the proofs that a crate above may cite. Bodies, private functions, tests, comments and notes to the
-prover's search a check doesn't see. Of the statements it sees those that the crate's own texts name, and what these name in
-turn: by a path, as an import does, or by a bare word within one file. What a type has is named where the type is, and its own
-name is a word of what is seen. A name that a crate only passes on counts as the name of the crate that it comes from.
+Statements are types, traits, constants, the views and invariants of types, and the signatures of public functions with their
+clauses; `specs/`; and the proofs that a crate above may cite. A check doesn't see bodies, private functions, tests, comments and
+notes to the prover's search. Of the statements, it sees those that the crate's own texts name, and those that these name in turn:
+by a path, as an import does, or by a bare word within one file. The items of a type are seen if the type is named and their own
+name is a word of what is seen. A name that a crate only re-exports counts as the name in the crate that it comes from.
 
-The reader of `.rt` knows the forms of items that stand in this repository. A file in which it meets another form counts as
-seen from its first letter to its last, for every crate above.
+The reader of `.rt` knows the forms of items in this repository. If a file has another form, all of the file counts as seen, for
+every crate above.
 """
 import os
 import re
@@ -43,13 +43,13 @@ def files(folder, ending):
 
 
 def dependencies(root):
-    """Returns the line of each crate in crates.txt, by its name: what stands before the colon, and each library."""
+    """Returns the line of each crate in crates.txt, by its name: the text before the colon, and each library."""
     lines = [it.partition(":") for it in read(f"{root}/crates.txt").splitlines() if it.strip() and not it.startswith("#")]
     return {name.split()[0]: [name, *deps.split()] for name, _, deps in lines}
 
 
 def below(name, lines):
-    """Returns the crates of the repository that a crate stands on."""
+    """Returns the crates of the repository that a crate depends on."""
     found = []
     for dep in lines[name][1:]:
         if dep in lines:
@@ -79,7 +79,7 @@ def public_proofs(folder):
 
 
 def group_end(tokens, at):
-    """Returns the place behind the group of brackets that begins at a place."""
+    """Returns the place after the group of brackets that begins at a place."""
     closing, at = CLOSING[tokens[at]], at + 1
     while at < len(tokens) and tokens[at] != closing:
         if tokens[at] in CLOSING.values():
@@ -100,7 +100,7 @@ def up_to(tokens, at, stops):
 
 
 def clauses_end(tokens, at):
-    """Returns the place behind a function's signature and its clauses: that of its body or of the semicolon in its place."""
+    """Returns the place after a function's signature and its clauses: that of its body, or of the semicolon instead of a body."""
     while True:
         at = up_to(tokens, at, "{;")
         words = [it for it in tokens[max(0, at - 3) : at] if it != "*"][-2:]
@@ -204,7 +204,7 @@ def each_import(tokens):
 
 
 def imports_of(tokens):
-    """Returns all imports of a source, wherever they stand in it."""
+    """Returns all imports of a source, wherever they are in it."""
     starts = [at for at, it in enumerate(tokens) if it == "use"]
     return [it for at in starts for it in each_import(tokens[at + 1 : up_to(tokens, at, ";")])]
 
@@ -223,8 +223,8 @@ def each_path(text):
 
 
 def names_of(block):
-    """Returns the names that call a definition up: its own, or those of several that stand together, and constructors; none where
-    one isn't a word."""
+    """Returns the names that make a definition seen: its own, or those of several in one block, and constructors; nothing if one isn't
+    a word."""
     declared = re.findall(r"^(?:abbrev |record |data |mod |pub )+([^\s({]+)", block, re.M)
     within = re.findall(r"^ +(?:abbrev |record |data |pub )*([\w'-]+) :", block, re.M)
     return frozenset([*declared, *within]) if declared and all(re.fullmatch(r"[\w'-]+", it) for it in declared) else None
@@ -323,7 +323,7 @@ class Statements:
         return pieces + [Piece(frozenset([f"::{name}"]), frozenset(), f"pub use {place} as {name}") for place, name in doors]
 
     def with_imports(self, names, text, imports):
-        """Returns a piece's text behind the imports whose names it has, or that call it up."""
+        """Returns a piece's text after the imports whose names it has, or that make it seen."""
         bare, words = text.replace(" ", ""), words_of(text) | (names or frozenset())
         kept = [it for it in imports if (it[1] in words if WORD.match(it[1]) else all(part in bare for part in it[0].rpartition(".")[2].split("◌")))]
         return "\n".join([*sorted(self.resolved(f"{place} as {name}") for place, name in kept), self.resolved(text)])

@@ -5,7 +5,7 @@ REFUSED = "error 15 at memory: OutOfMemory\n"
 UNWRITTEN = "error: state not written\n"
 WHOLE = "whole"
 WORDS = {"Before": "before the call", "During": "during the call", "Output": "as an output"}
-# What is told where there is no memory for the program itself, before its plan is carried out, or for the checks that the kit
+# What is printed if there is no memory for the program itself, before its plan is carried out, or for the checks that the kit
 # compiles into it, which then end it.
 OWN_WANT = re.compile(r'status 1: error: (Alloc|Kind\(OutOfMemory\)|"(the texts are|the plan is) refused")')
 CHECKS_WANT = re.compile(r"status -\d+: ==\d+==ERROR: AddressSanitizer(: out of memory:)? failed to allocate ")
@@ -52,7 +52,7 @@ class Judge:
         return self.known[forgets, lost]
 
     def fault(self, ended, way, most=None):
-        """Returns what is wrong with the end of a run, or nothing. So many things at most may be lost in it."""
+        """Returns what is wrong with the end of a run, or nothing. At most the given number of things may be lost in it."""
         if isinstance(ended, str):
             return ended
         if ended.outcomes is None:
@@ -68,7 +68,7 @@ class Judge:
         return self.fault_of_calls(ended) or self.fault_of_report(ended, self.text if way == "apply" else "")
 
     def fault_of_calls(self, ended):
-        """Returns where the calls aren't those of the journal, and these not those that outcomes and excuses tell of."""
+        """Returns what is wrong if the calls aren't those of the journal, or the journal's not those that outcomes and excuses imply."""
         names = self.given.actions
         called = sorted(at for at, op in ended.journal if names[at].endswith(f" {op}"))
         made = [at for at, calls in enumerate(ended.calls) for _ in range(calls)]
@@ -78,7 +78,7 @@ class Judge:
         return "" if called == made == due and excused == named else "the calls aren't those of the journal"
 
     def fault_of_report(self, ended, text):
-        """Returns where the report isn't the definition's, for its own excuses, or isn't shown behind this text."""
+        """Returns what is wrong if the report isn't the definition's, for its own excuses, or isn't printed after this text."""
         forgets = tuple(self.given.actions[at] for kind, at in ended.excused if kind != "Output")
         one = self.by_one(forgets, tuple(self.outputs[at] for kind, at in ended.excused if kind == "Output"))
         unwritten = one.changed and not ended.written

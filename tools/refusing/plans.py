@@ -91,7 +91,7 @@ MIXTURES = {
     ),
 }
 
-# A worker has room for 64 hints at first, and whoever ends the net gives one for each host.
+# A worker has space for 64 hints at first, and the one that ends the net gives one for each host.
 HOSTS = 66
 WIDE = (
     blocks({"a": {"cidr": "x"}}, {"h": {"count": HOSTS, "name": "h", "depends_on": ["sim_net.a"]}}),

@@ -11,17 +11,17 @@ import time
 sys.path.append(os.path.dirname(os.path.dirname(os.path.realpath(__file__))))
 from placed import place, start_trying
 
-# The number of the growth that the compiled program refuses. A run has so many growths before its plan that the one that is
-# meant has this number; with none before its plan, no run comes so far.
+# The number of the allocation that the compiled program refuses. A run makes allocations before its plan, as many as are needed for
+# the chosen one to have this number. Without any before its plan, no run makes so many.
 REFUSED = 6000
-# By so many bytes more memory is allowed from run to run.
+# Each run may use this number of bytes more than the one before.
 STEP = 1 << 16
 # More than any program may have.
 ENDLESS = 1 << 47
-# After so many seconds a run hangs.
+# A run that takes longer than this number of seconds hangs.
 SECONDS = 120
-# Of the checks that the kit compiles into the program: that there is no memory is told to it, what it gives back it can have
-# again, and they themselves take none for that.
+# For the checks that the kit compiles into the program: they report to it that there is no memory, let it use again what it frees,
+# and take no memory for that themselves.
 CHECKS = {
     "allocator_may_return_null": 1,
     "quarantine_size_mb": 0,
@@ -36,7 +36,7 @@ Given = collections.namedtuple("Given", "config state actions")
 
 
 def compiled(room):
-    """Has `rt try` compile the program, and copies its file into the room while it waits for its configuration at a pipe."""
+    """Has `rt try` compile the program, and copies its file into the folder while it waits for its configuration at a pipe."""
     pipe, program, end = f"{room}/pipe", f"{room}/scarce_memory", None
     os.mkfifo(pipe)
     words = ["--fail-alloc", str(REFUSED), "--", "one", pipe, "none", "1", "0", "0"]
@@ -59,8 +59,8 @@ def compiled(room):
 
 
 def limited(words, threads, memory):
-    """Returns the words of a command that is held to limits: its threads' stacks are larger than all memory that can be named,
-    so that none starts; and it may have so many bytes of memory."""
+    """Returns the words of a command with limits: if no thread may start, the threads' stacks are larger than the address space; and it
+    may use the given number of bytes of memory."""
     most = resource.getrlimit(resource.RLIMIT_STACK)[1]
     stack = ENDLESS if most == resource.RLIM_INFINITY else min(ENDLESS, most)
     held = [] if threads else [f"ulimit -S -s {stack // 1024}"]
@@ -108,7 +108,7 @@ def last_so(low, high, is_so):
 
 
 def parsed(said):
-    """Returns what the program told."""
+    """Returns what the program printed."""
     head, _, rest = said.partition("--- shown\n")
     shown, _, status = rest.rpartition("--- status ")
     head, _, state = head.partition("--- state\n")

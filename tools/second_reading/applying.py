@@ -24,8 +24,8 @@ def provided(request, verb):
 
 @dataclass
 class Walk:
-    """A plan that is carried out. Where `is_stopped`, a stop was asked for before the first call, so each action that isn't
-    skipped is left. `outcomes`, `told` and `objects` are each action's."""
+    """A plan that is carried out. If `is_stopped`, the stop flag was set before the first call, so each action that isn't
+    skipped is left. `outcomes`, `told` (diagnostics) and `objects` are by action."""
 
     plan: Plan
     is_stopped: bool = False
@@ -67,7 +67,7 @@ class Walk:
         return outcome
 
     def requested(self, action, prior):
-        """Returns the object that is asked for: its arguments anew, by what was answered so far."""
+        """Returns the requested object: its arguments, evaluated again with the replies so far."""
         addr, key, verb, _ = action
         values = self.plan.arguments(addr, key, self.plan.standing(self.plan.needs[addr], self.object_of))
         if verb == "update":

@@ -150,7 +150,7 @@ class Site:
         return block
 
     def change(self):
-        """Takes away, changes and adds blocks and outputs; what refers to a block that is gone goes too. Now and then begins anew."""
+        """Removes, changes and adds blocks and outputs, and removes what refers to a removed block. Sometimes starts from nothing."""
         chance, config = self.chance, self.config
         if chance.random() < 0.08:
             # (what is stored may then need in a ring what is made now)
@@ -184,7 +184,7 @@ class Site:
         return copy.deepcopy(config)
 
     def is_whole(self, block):
-        """Whether all blocks that a block or an output names stand."""
+        """Returns whether all blocks that a block or an output names exist."""
         named = {it for name, value in block.items() if name not in ("depends_on", "lifecycle") for it in references(value)}
         named |= {tuple(it.split(".")) for it in block.get("depends_on", [])}
         return all(self.block(it) is not None for it in named if it[0] in SCHEMAS)

@@ -30,7 +30,7 @@ class TextSet:
 
 
 class Scope:
-    """What references stand for. A local is valued where it is referred to."""
+    """The values of references. A local is evaluated when it is referred to."""
 
     def __init__(self, constants, local_values):
         self.constants, self.locals = constants, local_values

@@ -76,7 +76,7 @@ def closure(edges):
 
 @dataclass
 class Plan:
-    """A configuration, and what comes of it over a state. `keys` are each resource's; `changes` and `planned` each instance's."""
+    """A configuration, and its plan over a state. `keys` are by resource; `changes` and `planned` by instance."""
 
     config: dict
     prior: State
@@ -121,11 +121,11 @@ class Plan:
         return resource and resource.records.get((key, deposed))
 
     def by_needs(self):
-        """Returns the blocks' addrs, each behind those that it needs."""
+        """Returns the blocks' addresses, each after those that it needs."""
         return sorted(self.blocks, key=lambda addr: len(self.needs[addr]))
 
     def standing(self, addrs, object_of):
-        """Returns what references to resources stand for, by the object of each instance."""
+        """Returns the values of references to resources, by the object of each instance."""
         found = {}
         for addr in addrs:
             block, keys = self.blocks[addr], self.keys[addr]

@@ -29,7 +29,7 @@ class Literal(NamedTuple):
 
 
 class Woven(NamedTuple):
-    """A template: a text before each term, and one behind the last."""
+    """A template: a text before each term, and one after the last."""
 
     texts: list
     terms: list
@@ -119,7 +119,7 @@ class Reader:
         return Token("begun" if rest in (b"=", b"&", b"|") else "none", rest[:1].decode(errors="replace"), at, at + 1)
 
     def refuse(self, token, behind_operand=False):
-        """Refuses what stands next. A text that ends within an operator that may stand there could still go on."""
+        """Refuses the next token. If a text ends within an operator that is allowed there, it is refused at its end."""
         begun = token.kind == "begun" or (token.text == "!" and token.end == len(self.bytes))
         raise Unread(len(self.bytes) if token.kind == "end" or (behind_operand and begun) else token.start)
 
@@ -132,7 +132,7 @@ class Reader:
         return False
 
     def close(self, symbol):
-        """Takes a symbol that has to come behind an operand."""
+        """Takes a symbol that has to come after an operand."""
         if not self.next_is(symbol):
             self.refuse(self.peek(), behind_operand=True)
 
