@@ -60,7 +60,7 @@ pub fn read_texts(
     })
 }
 
-/// The state that a plan starts from: the one that a text is, or the empty one of a lineage where there is no text.
+/// Returns the state that a plan starts from: the one in the text, or the empty one with the lineage if there is no text.
 fn read_prior(alloc: Global, state: Option<&[u8]>, lineage: &str) -> Result<State, Refusal>
     ensures prior { IfOk result (λ s. IsPrior (option_map (λ s. s.now) state.entry) lineage.now (state_of s)) }
     ensures valid { IfOk result (λ s. IsValid (state_of s)) }

@@ -88,7 +88,7 @@ impl Dependence {
         self.order.as_slice()
     }
 
-    /// Returns the places of what the name at a place refers to directly, once for each reference.
+    /// Returns the places of the names to which the name at `name` refers directly, once for each reference.
     pub fn before(&self, name: usize) -> &[usize]
         requires { name < self.now.graph.nodes }
         ensures { result.now ≡ before_in self.now name }

@@ -197,7 +197,7 @@ fn demand_resource(known: Known<'_, '_>, addr: &ResourceAddr, block: &Block) -> 
     demand_block(known, &name, block)
 }
 
-/// Checks the block at the path.
+/// Checks the names that a block at this path refers to and calls.
 fn demand_block<'a>(
     known: Known<'_, '_>,
     path: &'a Path<'a>,

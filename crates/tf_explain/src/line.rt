@@ -8,7 +8,7 @@ const FIRST_DIAGNOSTIC: u8 = 21;
 /// A line of a refusal or a diagnostic.
 #[derive(Clone, Copy, Debug)]
 pub struct ErrorLine<'a> {
-    /// The code.
+    /// The number after `error`.
     pub code: u8,
     /// The place of a refusal, or the address or output of a diagnostic.
     pub place: &'a str,

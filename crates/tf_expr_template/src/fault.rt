@@ -48,8 +48,8 @@ pub(crate) fn refusal_behind(token: Token<'_>) -> TemplateFault
     }
 }
 
-/// Returns the refusal of a token that doesn't close a list on the last level. An expression that begins there is too
-/// deep.
+/// Returns the refusal of a token at the greatest depth, where only the end of a list is allowed. If the token begins an expression,
+/// the expression is too deep.
 pub(crate) fn last_level(token: Token<'_>) -> TemplateFault
     ensures { begins token.entry.kind ≡ true
         → (token.entry.kind ≡ Number → decimal token.entry.word.now < 2 ^ 63) → result ≡ TooDeep }

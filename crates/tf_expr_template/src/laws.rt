@@ -19,7 +19,7 @@ pub fn canonical_text()
     ensures text { (w : Woven) → IsWritableTemplate w → TemplateHasTexts w → IsUtf8 (canonical w) }
 {}
 
-/// Each template that some text spells is writable, and its texts are UTF-8 if that text is.
+/// A template is writable if any text spells it. If that text is UTF-8, so are the literals in the template.
 pub fn spelled_is_writable()
     ensures writable { (w : Woven) (text : List ℕ) → SpellsTemplate w text → IsWritableTemplate w }
     ensures texts { (w : Woven) (text : List ℕ) → IsUtf8 text → SpellsTemplate w text → TemplateHasTexts w }

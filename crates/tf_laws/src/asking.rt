@@ -21,8 +21,8 @@ pub fn requests_grow()
     updates_grow();
 }
 
-/// If an action's step is one of those decided about its instance, the object that the action would request by the plan is its
-/// planned object.
+/// If an action is one of the steps decided for its instance, the object that it would request with the plan's values is its planned
+/// object.
 pub fn planned_objects_are_asked()
     ensures { PlannedObjectsAreAsked }
 {

@@ -30,9 +30,9 @@ pub fn nothing_is_done_beside_equal()
     ensures planned { BesidePlannedNothingIsDone }
 {}
 
-/// What was asked for and answered well isn't asked for again. The answer fits the schema, and by what was planned
-/// before, nothing is done about it, if all of that is known except for what is kept. So the state after a good apply
-/// plans nothing again.
+/// If a requested object got a good reply, the same plan doesn't request it again. The object in the reply fits the schema, and by what
+/// was planned before, nothing is done about it, if all of that is known except for what is kept. So the state after a good apply plans
+/// nothing again.
 pub fn good_replies_stay()
     ensures fits { GoodRepliesFit }
     ensures change { GoodRepliesStay }

@@ -213,7 +213,7 @@ fn old_text(alloc: Global, name: &str, old: Option<&Value>) -> Result<String, Al
     }
 }
 
-/// Returns the remark behind an attribute that forces a replacement.
+/// Returns the remark after an attribute that forces a replacement.
 fn forced(names: &[String], name: &str) -> &'static str
     ensures { result.now ≡ forced (names_of names.now) name.now }
 {

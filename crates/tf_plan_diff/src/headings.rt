@@ -85,7 +85,7 @@ fn show_address(
     push_line(text, words.as_str())
 }
 
-/// Returns what is behind the symbol: the address, and the key of the object if it is deposed.
+/// Returns the text after the symbol: the address, and the key of the object if it is deposed.
 fn address_words(
     alloc: Global,
     address: &str,

@@ -50,8 +50,8 @@ impl Model for Journal {
 }
 
 impl Journal {
-    /// Returns a journal without entries, with room for one entry for each action of the graph. It keeps a copy of the graph,
-    /// which shares the lists of edges. Fails only if memory runs out.
+    /// Returns a journal without entries, with space for one entry for each action of the graph. It keeps a copy of the graph, which shares
+    /// the lists of edges. Fails only if memory runs out.
     pub fn with_room(alloc: Global, graph: &Graph) -> Result<Journal, AllocError>
         ensures graph { IfOk result (λ journal. journal.graph ≡ graph.now) }
         ensures empty { IfOk result (λ journal. journal.entries ≡ []) }

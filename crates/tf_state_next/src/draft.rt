@@ -21,8 +21,8 @@ pub struct StateDraft<'a> {
     pub(crate) resources: Vec<Resource>,
 }
 
-/// Builds the draft of the state after an apply from the state before it and from the address of each create and
-/// update, as often as there are such actions at it.
+/// Builds the draft of the state after an apply. It takes the prior state and a list of addresses: one entry for each create or update,
+/// so an address may occur several times.
 ///
 /// # Errors
 ///

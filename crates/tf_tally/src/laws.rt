@@ -5,8 +5,8 @@ ghost use Rattle.tf_tally.specs.Laws.{AllKnow, BalancedAgree};
 use crate::part::Part;
 use crate::tally::Tally;
 
-/// Who has all parts knows all: at a moment at which the rule holds and one holding has all parts, every other one has no
-/// part, keeps nothing and reports nothing, and what the one reports is balanced with what it keeps.
+/// If the rule holds and one holding has all parts, every other holding has no part, keeps nothing and reports nothing, and what the
+/// one reports is balanced with what it keeps.
 pub fn all_know<E>()
     ensures { AllKnow E }
 {}

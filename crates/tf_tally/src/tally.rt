@@ -55,7 +55,7 @@ impl<E> Tally<E> {
         Part { seat }
     }
 
-    /// Puts another part to this one, with what it keeps and what it reports, behind what is kept and reported here.
+    /// Merges another part into this one: appends its kept entries to those of this part, and its reported entries likewise.
     pub fn merge(&self, part: &mut Part<E>, other: Part<E>)
         requires part { part.old.table ≡ self.now }
         requires other { other.table ≡ self.now }

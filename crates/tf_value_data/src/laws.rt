@@ -36,8 +36,8 @@ pub fn puts_are_found()
     ensures others { PutLeavesOthers }
 {}
 
-/// With null for its unknown parts a value is known, and the value refines to it. A known value stays the same, and
-/// neither weight nor depth changes.
+/// If null replaces each unknown part of a value, the result is known, and the value refines to the result. A known value isn't
+/// changed. The result has the weight and the depth of the value.
 pub fn nulls_stand_for_unknowns()
     ensures known { NullsAreKnown }
     ensures stays { KnownKeepsItself }
@@ -45,9 +45,9 @@ pub fn nulls_stand_for_unknowns()
     ensures measures { NullsMeasureTheSame }
 {}
 
-/// With a list for each set a value has no set, and a value without sets stays the same. Its weight and depth stay
-/// the same, and it is known exactly if the value was. If a value refines to another one, so do both with lists for
-/// sets. A value within the limits may then be planned for an attribute, and stored if it is also known.
+/// If a list replaces each set in a value, the result has no set; a value without sets isn't changed. The result has the weight and the
+/// depth of the value, and is known exactly if the value is. If one value refines to another, their results do too. The result of a
+/// value within the limits may be planned for an attribute, and stored if it is also known.
 pub fn lists_stand_for_sets()
     ensures no_set { ListsAreNoSets }
     ensures stays { NoSetKeepsItself }

@@ -81,7 +81,7 @@ fn is_good(ended: &Option<ActionResult>) -> bool
     }
 }
 
-/// Returns whether an action was skipped. One without a result was.
+/// Returns whether an action was skipped. An action without a result counts as skipped.
 fn is_skipped(ended: &Option<ActionResult>) -> bool
     ensures { result ≡ is_skipped (result_or_skipped ended.now) }
 {

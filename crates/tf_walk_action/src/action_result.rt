@@ -34,7 +34,7 @@ pub struct Faulted {
 /// be reported as one that wasn't. As it may hold a reply, it can be neither copied nor dropped: it has to become a
 /// part of the report.
 pub enum ActionResult {
-    /// An action directly before it isn't good, as the evidence of that one says.
+    /// It was skipped, since an action directly before it isn't good. `NotGood` is the evidence.
     Skipped(Waived, NotGood),
     /// Memory ran out before the call.
     NotAsked(Waived),

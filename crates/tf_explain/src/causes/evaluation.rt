@@ -92,7 +92,7 @@ fn sentence(kind: &str) -> &'static str {
     }
 }
 
-/// Returns where the expression is that a place names: an argument, an output's value, `count` or `for_each`.
+/// Finds the expression at a place: an argument, an output's value, `count` or `for_each`.
 ///
 /// # Errors
 ///

@@ -186,7 +186,7 @@ fn explain_address(page: &mut Page, text: &str, config: &[u8]) -> Result<(), All
     page.say(&["`", text, "` is not declared.", suggestion.as_str()])
 }
 
-/// Considers the same name behind another first word, such as `var.x` for `vars.x`.
+/// Considers the same name after another first word, such as `var.x` for `vars.x`.
 fn consider_prefix(
     nearest: &mut Nearest<'_>,
     alloc: Global,

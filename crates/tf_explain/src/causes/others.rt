@@ -167,7 +167,8 @@ fn explain_record(page: &mut Page, place: &str, state: SourceFile<'_>) -> Result
     ])
 }
 
-/// Returns where the attribute of an object is in a state, or the resource's record.
+/// Finds the attribute of an address in the text of a state. If no instance has the attribute, returns the start of the resource's
+/// record.
 fn record_at(
     alloc: Global,
     address: Address<'_>,
@@ -183,7 +184,7 @@ fn record_at(
     Ok(None)
 }
 
-/// Returns where the attribute of the first instance that has it is in a record, or the first byte of the record.
+/// Finds an attribute in a record: in the first instance that has it. If none has it, returns the first byte of the record.
 fn attribute_at(
     alloc: Global,
     text: &[u8],
