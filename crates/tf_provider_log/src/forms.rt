@@ -87,7 +87,8 @@ fn one_item(alloc: Global, item: Json) -> Result<Json, AllocError>
     json!(in alloc; [item])
 }
 
-fn op_word(op: Op) -> &'static str
+/// Returns the word of an operation: `create`, `update` or `destroy`.
+pub fn op_word(op: Op) -> &'static str
     ensures { result.now ≡ op_word op }
 {
     match op {

@@ -13,8 +13,12 @@ use tf_provider_protocol::{Op, Reply, Request};
 use tf_value_data::Value;
 use tf_value_json::tree_from;
 
-/// Reads a string as a text.
-pub(crate) fn text_from(json: Option<&Json>) -> Result<Option<String>, AllocError>
+/// Reads a string as a text. Returns `None` if there is no value, or another one.
+///
+/// # Errors
+///
+/// Fails only if memory runs out.
+pub fn text_from(json: Option<&Json>) -> Result<Option<String>, AllocError>
     ensures { IfOk result (λ o. option_map string_bytes o ≡ text_from (option_map (λ v. view v.now) json.entry)) }
 {
     match json {
@@ -81,7 +85,7 @@ fn op_from(json: Option<&Json>) -> Option<Op>
     }
 }
 
-/// Reads the request that a tree says.
+/// Reads a request from a JSON tree, or returns nothing if the tree isn't a request.
 pub(crate) fn request_from(alloc: Global, json: &Json) -> Result<Option<Request>, AllocError>
     ensures { IfOk result (λ r. option_map asked r ≡ request_from (view json.now)) }
 {

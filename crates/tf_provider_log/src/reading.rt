@@ -32,8 +32,8 @@ pub fn read_log(alloc: Global, bytes: &[u8]) -> Result<Option<Log>, LogFault>
     Ok(Some(Log { header, entries }))
 }
 
-// Returns the first line, without its newline, and what follows it.
-fn next_line(bytes: &[u8]) -> Option<(&[u8], &[u8])>
+/// Returns the first whole line of a text, without its newline, and what follows it. Returns `None` if there is no newline.
+pub fn next_line(bytes: &[u8]) -> Option<(&[u8], &[u8])>
     ensures { MatchOption result (lines_of bytes.now ≡ [])
         (λ p. (lines_of bytes.now ≡ p.0.now ∷ lines_of p.1.now) × (length p.1.now < length bytes.now)) }
 {
@@ -83,8 +83,12 @@ fn read_entry(alloc: Global, line: &[u8]) -> Result<Option<LogEntry>, AllocError
     }
 }
 
-// Reads the JSON tree of a line.
-fn read_tree(alloc: Global, line: &[u8]) -> Result<Option<Json>, AllocError>
+/// Reads the JSON tree of a line. Returns `None` if the line isn't JSON.
+///
+/// # Errors
+///
+/// Fails only if memory runs out.
+pub fn read_tree(alloc: Global, line: &[u8]) -> Result<Option<Json>, AllocError>
     ensures { IfOk result (λ tree. option_map view tree ≡ tree_in line.now) }
 {
     match Json::from_slice(alloc, line) {

@@ -22,7 +22,7 @@ pub(crate) fn is_same(one: &Request, other: &Request) -> bool
 }
 
 /// Returns whether two texts are both present and equal, or both absent.
-fn is_same_text(one: &Option<String>, other: &Option<String>) -> bool
+pub fn is_same_text(one: &Option<String>, other: &Option<String>) -> bool
     ensures { result ≡ is_same_option bytes_eq (option_map string_bytes one.now) (option_map string_bytes other.now) }
 {
     match (one, other) {

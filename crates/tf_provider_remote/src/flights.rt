@@ -4,8 +4,8 @@ ghost use Rattle.std.specs.Prelude.{◌≡◌, ◌<◌, ◌++◌, ◌∷◌, ◌
 ghost use Rattle.tf_provider_protocol.specs.Meaning.{asked};
 ghost use Rattle.tf_provider_remote.specs.Flights.{IsTaken, has_call, is_call};
 
-use crate::results::is_same_text;
 use std::alloc::{AllocError, Global};
+use tf_provider_log::is_same_text;
 use tf_provider_protocol::Request;
 
 /// A request that was sent and has no reply yet.

@@ -11,7 +11,8 @@ ghost use Rattle.tf_value_data.specs.Tree.{tree_of};
 
 use serde_json::{Number, Value as Json, json};
 use std::alloc::{AllocError, Global};
-use tf_provider_protocol::{Op, Request};
+use tf_provider_log::op_word;
+use tf_provider_protocol::Request;
 use tf_value_data::{Value, copy, with_nulls};
 use tf_value_json::to_json;
 
@@ -104,16 +105,5 @@ fn option_form(alloc: Global, value: &Option<Value>) -> Result<Json, Unsent>
             }
         }
         None => Ok(Json::Null),
-    }
-}
-
-/// Returns the word of an operation.
-pub(crate) fn op_word(op: Op) -> &'static str
-    ensures { result.now ≡ op_word op }
-{
-    match op {
-        Op::Create => "create",
-        Op::Update => "update",
-        Op::Destroy => "destroy",
     }
 }

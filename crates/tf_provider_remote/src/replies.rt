@@ -1,14 +1,15 @@
 //! The lines of replies from a provider that is another program.
 
-ghost use Rattle.std.specs.Prelude.{◌≡◌, ◌<◌, ◌∷◌, [], IfOk, MatchOption, length, map, option_map, Some};
+ghost use Rattle.std.specs.Prelude.{◌≡◌, IfOk, map, option_map, Some};
 ghost use Rattle.serde_json.specs.View.{view};
-ghost use Rattle.tf_provider_log.specs.Line.{lines_of, tree_in};
+ghost use Rattle.tf_provider_log.specs.Line.{lines_of};
 ghost use Rattle.tf_provider_protocol.specs.Meaning.{answered};
 ghost use Rattle.tf_provider_remote.specs.Responses.{answer_from, failure_from, gone_from, id_from, left_from, response_from, response_in, response_of, responses_in, numbered};
 ghost use Rattle.tf_value_data.specs.Tree.{tree_of};
 
 use serde_json::Value as Json;
 use std::alloc::{AllocError, Global};
+use tf_provider_log::{next_line, read_tree};
 use tf_provider_protocol::Reply;
 use tf_value_data::Value;
 use tf_value_json::tree_from;
@@ -60,19 +61,6 @@ fn found(replies: Vec<Response>, bytes: &[u8], rest: &[u8], is_faulty: bool) -> 
     }
 }
 
-/// Returns the first line, without its newline, and what follows it.
-fn next_line(bytes: &[u8]) -> Option<(&[u8], &[u8])>
-    ensures { MatchOption result (lines_of bytes.now ≡ [])
-        (λ p. (lines_of bytes.now ≡ p.0.now ∷ lines_of p.1.now) × (length p.1.now < length bytes.now)) }
-{
-    for (index, byte) in bytes.iter().enumerate() {
-        if *byte == 10 {
-            return Some((&bytes[..index], &bytes[index + 1..]));
-        }
-    }
-    None
-}
-
 /// Reads a line, without its newline, as a reply. Returns `None` if it isn't one.
 fn read_reply(alloc: Global, line: &[u8]) -> Result<Option<Response>, AllocError>
     ensures { IfOk result (λ found. option_map response_of found ≡ option_map numbered (response_in line.now)) }
@@ -83,17 +71,6 @@ fn read_reply(alloc: Global, line: &[u8]) -> Result<Option<Response>, AllocError
             Ok(response)
         }
         None => Ok(None),
-    }
-}
-
-/// Reads the JSON tree of a line.
-pub(crate) fn read_tree(alloc: Global, line: &[u8]) -> Result<Option<Json>, AllocError>
-    ensures { IfOk result (λ tree. option_map view tree ≡ tree_in line.now) }
-{
-    match Json::from_slice(alloc, line) {
-        Ok(json) => Ok(Some(json)),
-        Err(error) if error.is_memory() => Err(AllocError),
-        Err(_) => Ok(None),
     }
 }
 

@@ -1,17 +1,14 @@
 //! The results of calls that were in flight when an apply ended, as a user writes them down.
 
 ghost use Rattle.std.specs.Prelude.{◌≡◌, IfOk, option_map, string_bytes};
-ghost use Rattle.std.specs.Str.{bytes_eq};
 ghost use Rattle.serde_json.specs.View.{view};
-ghost use Rattle.tf_provider_log.specs.From.{text_from};
-ghost use Rattle.tf_provider_log.specs.Same.{is_same_option};
 ghost use Rattle.tf_provider_protocol.specs.Meaning.{asked};
 ghost use Rattle.tf_provider_remote.specs.Results.{is_of, key_from, result_from, result_in, result_of};
 
-use crate::lines::op_word;
-use crate::replies::{read_tree, reply_from};
+use crate::replies::reply_from;
 use serde_json::Value as Json;
 use std::alloc::{AllocError, Global};
+use tf_provider_log::{is_same_text, op_word, read_tree, text_from};
 use tf_provider_protocol::{Reply, Request};
 
 /// The result of a call.
@@ -120,16 +117,6 @@ fn result_from(alloc: Global, json: &Json) -> Result<Option<CallResult>, AllocEr
     }))
 }
 
-/// Reads a string as a text.
-fn text_from(json: Option<&Json>) -> Result<Option<String>, AllocError>
-    ensures { IfOk result (λ text. option_map string_bytes text ≡ text_from (option_map (λ v. view v.now) json.entry)) }
-{
-    match json {
-        Some(Json::String(text)) => Ok(Some(text.clone()?)),
-        _ => Ok(None),
-    }
-}
-
 /// Reads a string as a key, and null, or nothing, as no key.
 fn key_from(json: Option<&Json>) -> Result<Option<Option<String>>, AllocError>
     ensures { IfOk result (λ key. option_map (option_map string_bytes) key ≡ key_from (option_map (λ v. view v.now) json.entry)) }
@@ -138,16 +125,5 @@ fn key_from(json: Option<&Json>) -> Result<Option<Option<String>>, AllocError>
         Some(Json::String(text)) => Ok(Some(Some(text.clone()?))),
         None | Some(Json::Null) => Ok(Some(None)),
         _ => Ok(None),
-    }
-}
-
-/// Returns whether two texts are both present and equal, or both absent.
-pub(crate) fn is_same_text(one: &Option<String>, other: &Option<String>) -> bool
-    ensures { result ≡ is_same_option bytes_eq (option_map string_bytes one.now) (option_map string_bytes other.now) }
-{
-    match (one, other) {
-        (Some(one), Some(other)) => one.as_str() == other.as_str(),
-        (None, None) => true,
-        _ => false,
     }
 }
