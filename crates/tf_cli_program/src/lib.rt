@@ -21,8 +21,9 @@ pub use laws::{
     what_lines_are_kept_is_recovered,
 };
 pub use logging::{
-    ask_for_results, finish_recovery, is_retried, preview_recovery, start as start_log,
+    ask_for_results, finish_recovery, is_inspected, preview_recovery, start as start_log,
 };
 pub use planning::plan_given;
+pub use recovery_status::is_state;
 pub use taking::Recovered;
 pub use work::{print_plan, shown_text};

@@ -50,6 +50,7 @@ where
     ensures from { IfOk result (λ _. ContinuesFrom (map meaning replayed.now) past.now given.old given.new) }
     ensures into { IfOk result (λ _. IsInspected past.now given.old.options) }
     ensures status { IfErr result (λ status. 1 ≤ exit_status status) }
+    ensures asks { IfErr result (λ status. exit_status status ≡ 2 → IsInspected past.now given.old.options → ⊥) }
 {
     let status = recovery_status(rt.alloc(), place, given, past, replayed, err)?;
     if !is_inspected(past, &given.options) {
@@ -67,14 +68,14 @@ where
 }
 
 /// Returns whether no call is in flight, or the options say that the calls in flight weren't made.
-fn is_inspected(past: &Past, options: &Options) -> bool
-    ensures { IsTrue result → IsInspected past.now options.now }
+pub fn is_inspected(past: &Past, options: &Options) -> bool
+    ensures { IsTrue result ↔ IsInspected past.now options.now }
 {
     past.in_flight.is_empty() || is_retried(options)
 }
 
 /// Returns whether the options say that the calls in flight weren't made.
-pub fn is_retried(options: &Options) -> bool
+fn is_retried(options: &Options) -> bool
     ensures { IsTrue result ↔ IsRetried options.now }
 {
     match &options.in_flight {
@@ -130,7 +131,7 @@ fn replace_state<R: Files, O: Write, E: Write>(
 where
     R::File: LogFile,
     ensures replaced { IfOk result (λ settled. replaced_text settled ≡ option_map string_bytes state) }
-    ensures status { IfErr result (λ status. 1 ≤ exit_status status) }
+    ensures status { IfErr result (λ status. (exit_status status ≡ 1) ⊎ (exit_status status ≡ 3)) }
 {
     let Some(state) = state else {
         return Ok(Settled::UpToDate);

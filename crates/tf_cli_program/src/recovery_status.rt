@@ -58,7 +58,7 @@ pub fn recovery_status<E: Write>(
 }
 
 /// Returns whether the given state has this text, or there is neither.
-fn is_state(given: &ProgramInput, text: &Option<String>) -> bool
+pub fn is_state(given: &ProgramInput, text: &Option<String>) -> bool
     ensures { IsTrue result ↔ (state_given given.now ≡ option_map string_bytes text.now) }
 {
     match (given.state_bytes(), text) {

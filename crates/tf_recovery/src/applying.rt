@@ -3,6 +3,7 @@
 use crate::approving::AtTerminal;
 use crate::explaining::{explains, sources, warn};
 use crate::outside::apply_outside;
+use crate::providers::own_providers;
 use crate::recovering::recover;
 use crate::settling::settle;
 use std::alloc::AllocError;
@@ -45,7 +46,8 @@ pub fn apply<T: Threads + Wait + Sync, O: Write, E: Write>(
         place,
         past,
     } = seen;
-    let past = match settle(rt, &place, &file, &given, past, err) {
+    let providers = own_providers(rt)?;
+    let past = match settle(rt, &place, &file, &given, &providers, past, err) {
         Ok(past) => past,
         Err(status) => return Ok(status),
     };

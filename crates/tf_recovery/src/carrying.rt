@@ -47,7 +47,7 @@ pub(crate) fn carried_out<T: Wait, E: Write>(
 }
 
 /// Ends an apply: prints what follows the plan's text, writes the state if it changed, and empties the log. If requests are still in
-/// flight, prints these and how to go on; the state and the log then stay as they are.
+/// flight, prints these and how to go on; the state and the log then stay as they are, unless the log lacks a reply.
 pub(crate) fn finish<O: Write, E: Write>(
     rt: &HostRuntime,
     place: &Place,
@@ -59,16 +59,22 @@ pub(crate) fn finish<O: Write, E: Write>(
     out: &mut O,
     err: &mut E,
 ) -> ExitCode {
-    if session.flights.is_empty() {
+    let _ = log.sync();
+    if session.flights.is_empty() || log.is_lost() {
+        tell_flights(rt, session, err);
         return end_apply(rt, place, file, log, answer, printed, out, err);
     }
-    let _ = log.sync();
     let _ = show_rest(printed, &answer, out, err);
     drop(state_to_write(answer));
+    tell_flights(rt, session, err);
+    ask_for_results(place, err)
+}
+
+/// Prints which requests are in flight.
+fn tell_flights<E: Write>(rt: &HostRuntime, session: &Session, err: &mut E) {
     for flight in session.flights.list() {
         tell_in_flight(rt.alloc(), &flight.request, err);
     }
-    ask_for_results(place, err)
 }
 
 /// Opens the pipes of each provider, in their order. If one can't be opened, prints that.

@@ -13,6 +13,7 @@ mod pipes;
 mod planning;
 mod previewing;
 mod printing;
+mod providers;
 mod recovering;
 mod remotes;
 mod session;

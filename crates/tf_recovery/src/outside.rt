@@ -5,6 +5,7 @@ use crate::explaining::{explains, sources, warn};
 use crate::own::{OwnEntries, entries_by_provider};
 use crate::planning::print_given;
 use crate::printing::{PrintedPlan, approved_plan};
+use crate::providers::all_providers;
 use crate::remotes::read_types;
 use crate::session::{ApplyLog, Session};
 use crate::settling::settle;
@@ -47,11 +48,7 @@ pub(crate) fn plan_outside<O: Write, E: Write>(
     if let Err(status) = preview_outside(rt, &types, &place, &mut given, past, err)? {
         return Ok(status);
     }
-    let alloc = rt.alloc();
-    let mut providers: Vec<Box<dyn Provider + Sync>> = Vec::new(alloc);
-    providers.push(Box::new(alloc, types)?)?;
-    providers.push(Box::new(alloc, Sim::new(alloc)?)?)?;
-    providers.push(Box::new(alloc, LocalFile::new(alloc, *rt)?)?)?;
+    let providers = all_providers(rt, types)?;
     Ok(print_given(rt, &place, &given, &providers, out, err))
 }
 
@@ -108,7 +105,8 @@ pub(crate) fn apply_outside<T: Wait, O: Write, E: Write>(
         place,
         past,
     } = seen;
-    let past = match settle(rt, &place, &file, &given, past, err) {
+    let providers = all_providers(rt, types.share()?)?;
+    let past = match settle(rt, &place, &file, &given, &providers, past, err) {
         Ok(past) => past,
         Err(status) => return Ok(status),
     };

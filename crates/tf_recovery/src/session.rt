@@ -2,7 +2,7 @@
 
 ghost use Rattle.std.specs.Prelude.{◌≡◌, false};
 ghost use Rattle.tf_provider_protocol.specs.Meaning.{asked};
-ghost use Rattle.tf_recovery.specs.Begun.{IsNew};
+ghost use Rattle.tf_recovery.specs.Begun.{has_begun};
 
 use crate::pipes::{Loss, Pipe};
 use std::alloc::{AllocError, Global};
@@ -80,7 +80,7 @@ impl Session {
 
     /// Returns whether a request is in flight or has ended.
     fn has_begun(&self, request: &Request) -> bool
-        ensures { result ≡ false → IsNew (asked request.now) self.now }
+        ensures { result ≡ has_begun (asked request.now) self.now }
     {
         self.flights.has(request) || is_begun(&self.entries, request)
     }
@@ -185,7 +185,7 @@ impl Session {
         line: String,
         err: &mut E,
     ) -> Result<(), AllocError>
-        requires { IsNew (asked request) self.old }
+        requires { has_begun (asked request) self.old ≡ false }
     {
         let Ok(announced) = log.announce(alloc, &request) else {
             self.is_closed = true;

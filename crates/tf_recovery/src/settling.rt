@@ -9,33 +9,46 @@ use tf_cli_files::{
     LineFile, Past, Place, ProgramInput, see_past, tell_no_log, tell_no_memory, tell_unread,
 };
 use tf_cli_lines::verb_text;
-use tf_cli_program::is_retried;
+use tf_cli_program::{is_inspected, is_state};
+use tf_provider::Provider;
 use tf_provider_log::{LogEntry, Unwritten, answered_line};
-use tf_provider_protocol::Request;
+use tf_provider_protocol::{Reply, Request, Verdict, asks_fully, judge, schema_for, well_formed};
 use tf_provider_remote::{CallResult, ResultsFault, read_results};
 
 /// Adds the results of the calls in flight to the log of an unfinished apply, if the options name a file of them, and returns what
-/// the log records then. If the file isn't of exactly these calls, prints that and returns the program's status, 1; the log then
-/// stays as it is.
+/// the log records then. If the file isn't of exactly these calls, or the given state isn't the one that the apply began with, prints
+/// that and returns the program's status, 1; the log then stays as it is.
 pub(crate) fn settle<E: Write>(
     rt: &HostRuntime,
     place: &Place,
     file: &File,
     given: &ProgramInput,
+    providers: &[Box<dyn Provider + Sync>],
     past: Option<(Past, Vec<LogEntry>)>,
     err: &mut E,
 ) -> Result<Option<(Past, Vec<LogEntry>)>, ExitCode> {
-    let in_flight = match &past {
-        Some((past, _)) => past.in_flight.as_slice(),
-        None => &[],
-    };
-    match &given.options.in_flight {
-        Some(name) if !in_flight.is_empty() && !is_retried(&given.options) => {
-            add_results(rt, place, file, name.as_str(), in_flight, err)?;
+    match (&given.options.in_flight, &past) {
+        (Some(name), Some((found, _))) if !is_inspected(found, &given.options) => {
+            if !is_state(given, &found.header.state) {
+                return Err(tell_other_state(name.as_str(), place, err));
+            }
+            let in_flight = found.in_flight.as_slice();
+            add_results(rt, place, file, name.as_str(), in_flight, providers, err)?;
             see_past(rt, place, err)
         }
         _ => Ok(past),
     }
+}
+
+/// Prints that the state isn't the one that an apply began with, so that no results are added to its log. Returns the program's status,
+/// 1.
+fn tell_other_state<E: Write>(name: &str, place: &Place, err: &mut E) -> ExitCode {
+    let _ = writeln!(
+        err,
+        "error: {name}: {} is not the state that the apply began with",
+        place.state
+    );
+    ExitCode::FAILURE
 }
 
 /// Adds the results in a file to the log, and syncs it. If the file isn't of exactly the calls in flight, prints that.
@@ -45,12 +58,13 @@ fn add_results<E: Write>(
     file: &File,
     name: &str,
     in_flight: &[Request],
+    providers: &[Box<dyn Provider + Sync>],
     err: &mut E,
 ) -> Result<(), ExitCode> {
     let Ok(text) = fs::read(rt, name) else {
         return Err(tell_unread(name, err));
     };
-    match answers(rt.alloc(), text.as_slice(), in_flight) {
+    match answers(rt.alloc(), text.as_slice(), in_flight, providers) {
         Ok(lines) => match append(rt, place, file, lines.as_str()) {
             Ok(()) => Ok(()),
             Err(_) => Err(tell_no_log(place.log.as_str(), err)),
@@ -70,6 +84,12 @@ enum Misfit<'a> {
     NotAResult(usize),
     /// A line has the result of a call that isn't in flight, or that has its result already.
     NotInFlight(usize),
+    /// No provider has the type of the call in a line.
+    NoProvider(usize),
+    /// A line has a result that this call can't have.
+    Malformed(usize, &'a Request),
+    /// A line has an object with another value of this attribute than requested.
+    Contradicts(usize, &'a str),
     /// A line has a value that is nested too deep.
     TooDeep(usize),
     /// No line has the result of this call.
@@ -89,6 +109,14 @@ impl fmt::Display for Misfit<'_> {
         match self {
             Misfit::NotAResult(line) => write!(f, "line {line}: not a result"),
             Misfit::NotInFlight(line) => { write!(f, "line {line}: no such call is in flight") }
+            Misfit::NoProvider(line) => write!(f, "line {line}: no provider has this type"),
+            Misfit::Malformed(line, request) => {
+                let verb = verb_text(&Some(request.op));
+                write!(f, "line {line}: not a result of {}{verb}", request.address)
+            }
+            Misfit::Contradicts(line, name) => {
+                write!(f, "line {line}: another value of {name} than requested")
+            }
             Misfit::TooDeep(line) => write!(f, "line {line}: nested too deep"),
             Misfit::Missing(request) => {
                 let verb = verb_text(&Some(request.op));
@@ -100,7 +128,12 @@ impl fmt::Display for Misfit<'_> {
 }
 
 /// Returns the log's lines of the results in a text: exactly one for each call in flight.
-fn answers<'a>(alloc: Global, text: &[u8], in_flight: &'a [Request]) -> Result<String, Misfit<'a>> {
+fn answers<'a>(
+    alloc: Global,
+    text: &[u8],
+    in_flight: &'a [Request],
+    providers: &'a [Box<dyn Provider + Sync>],
+) -> Result<String, Misfit<'a>> {
     let results = match read_results(alloc, text) {
         Ok(results) => results,
         Err(ResultsFault::Line(line)) => return Err(Misfit::NotAResult(line)),
@@ -116,13 +149,11 @@ fn answers<'a>(alloc: Global, text: &[u8], in_flight: &'a [Request]) -> Result<S
         let Some(request) = asked_of(in_flight, found) else {
             return Err(Misfit::NotInFlight(*line));
         };
-        if results
-            .iter()
-            .take(at)
-            .any(|(_, earlier)| earlier.is_of(request))
-        {
+        let mut earlier = results.iter().take(at);
+        if earlier.any(|(_, other)| other.is_of(request)) {
             return Err(Misfit::NotInFlight(*line));
         }
+        check(*line, request, &found.reply, providers)?;
         match answered_line(alloc, request, &found.reply) {
             Ok(text) => add(&mut lines, text.as_str())?,
             Err(Unwritten::OutOfMemory) => return Err(Misfit::OutOfMemory),
@@ -130,6 +161,36 @@ fn answers<'a>(alloc: Global, text: &[u8], in_flight: &'a [Request]) -> Result<S
         }
     }
     Ok(lines)
+}
+
+/// Checks that a result is a good one, or a failure that leaves no object or one of the type. Any other would be judged as a fault of
+/// the provider, and the object replaced.
+fn check<'a>(
+    line: usize,
+    request: &'a Request,
+    reply: &Reply,
+    providers: &'a [Box<dyn Provider + Sync>],
+) -> Result<(), Misfit<'a>> {
+    let Some(schema) = schema_for(providers, request.type_name.as_str()) else {
+        return Err(Misfit::NoProvider(line));
+    };
+    if let Reply::Failed { object, .. } = reply {
+        return match object {
+            Some(left) if !well_formed(left, schema) => Err(Misfit::Malformed(line, request)),
+            _ => Ok(()),
+        };
+    }
+    if !asks_fully(request, schema) {
+        return Err(Misfit::Malformed(line, request));
+    }
+    match judge(request, reply, schema) {
+        Verdict::Good => Ok(()),
+        Verdict::Contradicted(place) => match schema.attributes().get(place) {
+            Some(attribute) => Err(Misfit::Contradicts(line, attribute.name.as_str())),
+            None => Err(Misfit::Malformed(line, request)),
+        },
+        _ => Err(Misfit::Malformed(line, request)),
+    }
 }
 
 /// Returns the request that this is the result of, if there is one.
@@ -143,13 +204,23 @@ fn add(lines: &mut String, text: &str) -> Result<(), AllocError> {
     Ok(())
 }
 
-/// Appends whole lines to a log and syncs it. What follows its last whole line was cut off when an apply ended, and is removed.
+/// Appends whole lines to a log and syncs it. What follows its last whole line was cut off when an apply ended, and is removed. If not
+/// all lines are added, removes those that were.
 fn append(rt: &HostRuntime, place: &Place, file: &File, lines: &str) -> io::Result<()> {
     let bytes = fs::read(rt, place.log.as_str())?;
     let whole = whole_lines(bytes.as_slice());
     if whole < bytes.len() {
         file.set_len(whole as u64)?;
     }
+    let added = add_synced(file, lines);
+    if added.is_err() {
+        let _ = file.set_len(whole as u64);
+    }
+    added
+}
+
+/// Writes lines at the end of a log and syncs it.
+fn add_synced(file: &File, lines: &str) -> io::Result<()> {
     if LineFile::append(file, lines.as_bytes())? < lines.len() {
         return Err(io::Error::from(ErrorKind::WriteZero));
     }
