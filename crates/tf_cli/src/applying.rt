@@ -161,8 +161,12 @@ pub fn carry_out<R: Threads + Wait + Sync>(
     }
 }
 
-/// Carries out a plan on the calling thread, and returns its text and what the walk reports. Refuses only if memory runs out.
-fn carry_out_one(
+/// Carries out a plan on the calling thread, as [`carry_out`] does with one worker.
+///
+/// # Errors
+///
+/// `NoMemory` if memory runs out, before any call but those of `schema`.
+pub fn carry_out_one(
     alloc: Global,
     planned: &Planned,
     text: String,

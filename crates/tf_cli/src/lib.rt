@@ -4,7 +4,7 @@
 mod applying;
 mod planning;
 
-pub use applying::{apply_one, apply_text, carry_out};
+pub use applying::{apply_one, apply_text, carry_out, carry_out_one};
 pub use planning::{InputTexts, plan_of_texts, plan_text, text_of};
 pub use tf_cli_files::keep;
 pub use tf_cli_lines::{SaveFault, save, save_all};

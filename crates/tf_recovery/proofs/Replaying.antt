@@ -44,11 +44,22 @@ three_lists f xs ys zs ws None b c d e g i j k l p q r same h (s, t) u w = absur
 pub three_long : {V : Type 0} (f : V → List LogEntryView) (xs : List V) (p q r : List LogEntryView) → map f xs ≡ p ∷ q ∷ r ∷ [] → 3 ≤ length xs
 three_long f xs p q r same = let as_many = ap length same in omega (arith, length-map xs f, as_many)
 
+-- three providers mean what each of them means
+pub three_meanings : {B : Type 0} (f : B → Meaning) (bs : List B) (first second third : Meaning) (ms : List Meaning) (b c d : B) → first ∷ second ∷ third ∷ [] ≡ ms
+    → bs ≡ b ∷ c ∷ d ∷ [] → f b ≡ first → f c ≡ second → f d ≡ third → map f bs ≡ ms
+three_meanings f bs first second third ms b c d same items is_first is_second is_third = ap (λ xs. map f xs) items ∙ (rw (is_first, is_second, is_third) refl ∙ same)
+
 -- what holds of the meanings of three providers holds of these meanings, if they are the same
 pub by_three : {B : Type 0} (f : B → Meaning) (bs : List B) (P : List Meaning → Type 0) (first second third : Meaning) (ms : List Meaning) (b c d : B) → P (map f bs) → first ∷ second ∷ third ∷ [] ≡ ms
     → bs ≡ b ∷ c ∷ d ∷ [] → f b ≡ first → f c ≡ second → f d ≡ third → P ms
 by_three f bs P first second third ms b c d holds same items is_first is_second is_third =
-    subst P (ap (λ xs. map f xs) items ∙ (rw (is_first, is_second, is_third) refl ∙ same)) holds
+    subst P (three_meanings f bs first second third ms b c d same items is_first is_second is_third) holds
+
+-- what holds of these meanings holds of the meanings of three providers, if they are the same
+pub for_three : {B : Type 0} (f : B → Meaning) (bs : List B) (P : List Meaning → Type 0) (first second third : Meaning) (ms : List Meaning) (b c d : B) → P ms → first ∷ second ∷ third ∷ [] ≡ ms
+    → bs ≡ b ∷ c ∷ d ∷ [] → f b ≡ first → f c ≡ second → f d ≡ third → P (map f bs)
+for_three f bs P first second third ms b c d holds same items is_first is_second is_third =
+    subst P (sym (three_meanings f bs first second third ms b c d same items is_first is_second is_third)) holds
 
 -- the providers of an apply with providers outside the program, each answering from its own entries
 pub outside_together : (remote : Meaning) (p q r es fs : List LogEntryView) → p ∷ q ∷ r ∷ [] ≡ own_entries (outside_meanings remote) es → es ≡ fs

@@ -2,11 +2,13 @@
 
 ghost use Rattle.std.specs.Prelude.{◌≡◌, IfOk, map};
 ghost use Rattle.tf_provider_log.specs.LogEntry.{log_entry_of};
-ghost use Rattle.tf_recovery.specs.Outside.{IsOutcome, outside_replayed};
+ghost use Rattle.tf_cli.specs.Applies.{MayStart};
+ghost use Rattle.tf_recovery.specs.Outside.{IsOutcome, outside_meanings, outside_replayed};
+ghost use Rattle.tf_walk_action.specs.Words.{plan_of};
 
 use crate::pipes::Pipe;
 use crate::session::{ApplyLog, Session};
-use crate::walking::{Walk, apply_over_log};
+use crate::walking::{Walk, apply_over_log, requests_over_log};
 use std::alloc::AllocError;
 use std::fs::File;
 use std::io::Write;
@@ -15,35 +17,66 @@ use std::sync::Wait;
 use tf_cli::{Applied, Refused, SaveFault, show_rest, state_to_write};
 use tf_cli_files::{Place, ProgramInput, tell_in_flight};
 use tf_cli_program::{ask_for_results, end_apply};
+use tf_plan_data::Planned;
 use tf_provider::Provider;
+use tf_provider_protocol::Request;
 use tf_provider_remote::RemoteTypes;
 
-/// Applies what was given: makes the calls that the log doesn't answer, until it answers all that are asked for.
+/// Applies what was given, whose plan this is: makes the calls that the log doesn't answer, until it answers all that are asked for.
 pub(crate) fn carried_out<T: Wait, E: Write>(
     rt: &HostRuntime,
     threads: &T,
     given: &ProgramInput,
+    types: &RemoteTypes,
+    planned: &Planned,
     log: &ApplyLog,
     providers: &[Box<dyn Provider + Sync>],
     session: &mut Session,
     err: &mut E,
 ) -> Result<Result<Applied, Refused>, AllocError>
+    requires { MayStart (outside_meanings (⟦<RemoteTypes as Provider>⟧.meaning types.now)) (plan_of planned.now) }
     ensures { IfOk result (λ answer. IsOutcome (outside_replayed (⟦<RemoteTypes as Provider>⟧.meaning session.new.types) (map log_entry_of session.new.entries.items)) given.now answer) }
 {
     for _ in threads.forever() {
-        let Walk { answer, unanswered } = apply_over_log(
-            rt,
-            given,
-            &session.types,
-            &session.entries,
-        )?;
-        if session.is_finished(&unanswered) {
-            return Ok(answer);
-        }
-        drop(state_to_write(answer));
+        let unanswered = match calls_to_make(rt, types, planned, session)? {
+            Some(unanswered) => unanswered,
+            None => {
+                let Walk { answer, unanswered } = apply_over_log(
+                    rt,
+                    given,
+                    &session.types,
+                    &session.entries,
+                )?;
+                if session.is_finished(&unanswered) {
+                    return Ok(answer);
+                }
+                drop(state_to_write(answer));
+                unanswered
+            }
+        };
         session.serve(rt, log, providers, given, unanswered, err)?;
     }
     unreachable!()
+}
+
+/// Returns the calls that the log doesn't answer, or `None` if no call is left: each action's call has ended, or nothing is to be
+/// begun.
+fn calls_to_make(
+    rt: &HostRuntime,
+    types: &RemoteTypes,
+    planned: &Planned,
+    session: &Session,
+) -> Result<Option<Vec<Request>>, AllocError>
+    requires { MayStart (outside_meanings (⟦<RemoteTypes as Provider>⟧.meaning types.now)) (plan_of planned.now) }
+{
+    if session.entries.len() >= planned.plan.actions.len() {
+        return Ok(None);
+    }
+    let unanswered = requests_over_log(rt, planned, types, &session.entries)?;
+    if session.is_finished(&unanswered) {
+        return Ok(None);
+    }
+    Ok(Some(unanswered))
 }
 
 /// Ends an apply: prints what follows the plan's text, writes the state if it changed, and empties the log. If requests are still in

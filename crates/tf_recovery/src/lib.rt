@@ -15,6 +15,7 @@ mod previewing;
 mod printing;
 mod providers;
 mod recovering;
+mod recovering_outside;
 mod remotes;
 mod session;
 mod settling;

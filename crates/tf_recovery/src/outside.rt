@@ -1,27 +1,32 @@
 //! The work of both programs with providers outside the program.
 
+ghost use Rattle.std.specs.Prelude.{◌≡◌, map};
+ghost use Rattle.tf_cli.specs.Applies.{MayStart};
+ghost use Rattle.tf_recovery.specs.Outside.{outside_meanings};
+ghost use Rattle.tf_walk_action.specs.Words.{plan_of};
+
 use crate::carrying::{carried_out, check_pipes, finish, open_pipes};
 use crate::explaining::{explains, sources, warn};
-use crate::own::{OwnEntries, entries_by_provider};
 use crate::planning::print_given;
 use crate::printing::{PrintedPlan, approved_plan};
 use crate::providers::all_providers;
+use crate::recovering_outside::{preview_outside, recover_outside};
 use crate::remotes::read_types;
 use crate::session::{ApplyLog, Session};
 use crate::settling::settle;
-use std::alloc::AllocError;
 use std::fs::File;
 use std::io;
 use std::io::Write;
 use std::process::ExitCode;
 use std::sync::{Arc, Wait};
-use tf_cli_files::{CallControl, Past, Place, ProgramInput, Seen, hold, see};
+use tf_cli::SaveFault;
+use tf_cli_files::{CallControl, Place, ProgramInput, Seen, hold, see};
 use tf_cli_options::Options;
-use tf_cli_program::{finish_recovery, preview_recovery, start_log};
+use tf_cli_program::start_log;
 use tf_explain::Explained;
+use tf_plan_data::Planned;
 use tf_provider::Provider;
 use tf_provider_local::LocalFile;
-use tf_provider_log::{LogEntry, Replayed};
 use tf_provider_remote::RemoteTypes;
 use tf_provider_sim::Sim;
 
@@ -50,30 +55,6 @@ pub(crate) fn plan_outside<O: Write, E: Write>(
     }
     let providers = all_providers(rt, types)?;
     Ok(print_given(rt, &place, &given, &providers, out, err))
-}
-
-/// Recovers the state that an unfinished apply left, if there is one, for a plan.
-fn preview_outside<E: Write>(
-    rt: &HostRuntime,
-    types: &RemoteTypes,
-    place: &Place,
-    given: &mut ProgramInput,
-    past: Option<(Past, Vec<LogEntry>)>,
-    err: &mut E,
-) -> Result<Result<(), ExitCode>, AllocError> {
-    let Some((past, entries)) = past else {
-        return Ok(Ok(()));
-    };
-    let alloc = rt.alloc();
-    let OwnEntries { remote, sim, files } = entries_by_provider(rt, types, entries)?;
-    let remote = Replayed::new(alloc, remote, types.share()?);
-    let sim = Replayed::new(alloc, sim, Sim::new(alloc)?);
-    let files = Replayed::new(alloc, files, LocalFile::new(alloc, *rt)?);
-    let mut providers: Vec<Box<dyn Provider + Sync>> = Vec::new(alloc);
-    providers.push(Box::new(alloc, remote)?)?;
-    providers.push(Box::new(alloc, sim)?)?;
-    providers.push(Box::new(alloc, files)?)?;
-    Ok(preview_recovery(alloc, place, given, &past, providers.as_slice(), err))
 }
 
 /// Recovers an unfinished apply, if there is one, then applies with providers outside the program, and returns the
@@ -117,41 +98,6 @@ pub(crate) fn apply_outside<T: Wait, O: Write, E: Write>(
     apply_with(rt, threads, types, &place, file, &given, out, err)
 }
 
-/// Recovers the state that an unfinished apply left, if there is one.
-fn recover_outside<O: Write, E: Write>(
-    rt: &HostRuntime,
-    types: &RemoteTypes,
-    place: &Place,
-    file: &File,
-    given: &mut ProgramInput,
-    past: Option<(Past, Vec<LogEntry>)>,
-    out: &mut O,
-    err: &mut E,
-) -> Result<Result<(), ExitCode>, AllocError> {
-    let Some((past, entries)) = past else {
-        return Ok(Ok(()));
-    };
-    let alloc = rt.alloc();
-    let OwnEntries { remote, sim, files } = entries_by_provider(rt, types, entries)?;
-    let remote = Replayed::new(alloc, remote, types.share()?);
-    let sim = Replayed::new(alloc, sim, Sim::new(alloc)?);
-    let files = Replayed::new(alloc, files, LocalFile::new(alloc, *rt)?);
-    let mut providers: Vec<Box<dyn Provider + Sync>> = Vec::new(alloc);
-    providers.push(Box::new(alloc, remote)?)?;
-    providers.push(Box::new(alloc, sim)?)?;
-    providers.push(Box::new(alloc, files)?)?;
-    Ok(finish_recovery(
-        rt,
-        place,
-        file,
-        given,
-        &past,
-        providers.as_slice(),
-        out,
-        err,
-    ))
-}
-
 /// Applies with providers outside the program, after a recovery.
 fn apply_with<T: Wait, O: Write, E: Write>(
     rt: &HostRuntime,
@@ -177,10 +123,10 @@ fn apply_with<T: Wait, O: Write, E: Write>(
     let files = sources(given, place, providers.as_slice());
     warn(rt, given, files, err);
     let mut err = Explained::new(alloc, err, explains(rt, given), files);
-    carry_out_outside(
+    carry_out_approved(
         rt,
         threads,
-        types,
+        &types,
         place,
         log_file,
         control.log(),
@@ -191,11 +137,11 @@ fn apply_with<T: Wait, O: Write, E: Write>(
     )
 }
 
-/// Prints the plan, asks for approval, opens the pipes, starts the log, makes the calls, prints the result and writes the state.
-fn carry_out_outside<T: Wait, O: Write, E: Write>(
+/// Prints the plan, asks for approval, and carries the plan out.
+fn carry_out_approved<T: Wait, O: Write, E: Write>(
     rt: &HostRuntime,
     threads: &T,
-    types: RemoteTypes,
+    types: &RemoteTypes,
     place: &Place,
     file: &File,
     log: &ApplyLog,
@@ -203,18 +149,38 @@ fn carry_out_outside<T: Wait, O: Write, E: Write>(
     providers: &[Box<dyn Provider + Sync>],
     out: &mut O,
     err: &mut E,
-) -> io::Result<ExitCode> {
-    let PrintedPlan {
-        printed,
-        has_actions,
-    } = match approved_plan(rt, given, providers, out, err) {
-        Ok(plan) => plan,
-        Err(status) => return Ok(status),
-    };
-    let folders = if has_actions {
-        given.options.providers.as_slice()
-    } else {
+) -> io::Result<ExitCode>
+    requires { map meaning providers.now ≡ outside_meanings (⟦<RemoteTypes as Provider>⟧.meaning types.now) }
+{
+    match approved_plan(rt, given, providers, out, err) {
+        Ok(PrintedPlan { planned, printed }) => carry_out_outside(
+            rt, threads, types, place, file, log, given, providers, &planned, printed, out, err,
+        ),
+        Err(status) => Ok(status),
+    }
+}
+
+/// Opens the pipes, starts the log, makes the calls of a plan that was printed, prints the result and writes the state.
+fn carry_out_outside<T: Wait, O: Write, E: Write>(
+    rt: &HostRuntime,
+    threads: &T,
+    types: &RemoteTypes,
+    place: &Place,
+    file: &File,
+    log: &ApplyLog,
+    given: &ProgramInput,
+    providers: &[Box<dyn Provider + Sync>],
+    planned: &Planned,
+    printed: Result<(), SaveFault>,
+    out: &mut O,
+    err: &mut E,
+) -> io::Result<ExitCode>
+    requires { MayStart (outside_meanings (⟦<RemoteTypes as Provider>⟧.meaning types.now)) (plan_of planned.now) }
+{
+    let folders = if planned.plan.actions.is_empty() {
         &[]
+    } else {
+        given.options.providers.as_slice()
     };
     let pipes = match open_pipes(rt, folders, err)? {
         Ok(pipes) => pipes,
@@ -223,7 +189,17 @@ fn carry_out_outside<T: Wait, O: Write, E: Write>(
     if let Err(status) = start_log(rt, place, log, given, err) {
         return Ok(status);
     }
-    let mut session = Session::new(rt.alloc(), types, pipes, given.options.parallelism)?;
-    let answer = carried_out(rt, threads, given, log, providers, &mut session, err)?;
+    let mut session = Session::new(rt.alloc(), types.share()?, pipes, given.options.parallelism)?;
+    let answer = carried_out(
+        rt,
+        threads,
+        given,
+        types,
+        planned,
+        log,
+        providers,
+        &mut session,
+        err,
+    )?;
     Ok(finish(rt, place, file, log, &session, answer, printed, out, err))
 }

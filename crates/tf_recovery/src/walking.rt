@@ -1,14 +1,17 @@
 //! An apply by providers that answer from a log, with what they are asked for besides.
 
-ghost use Rattle.std.specs.Prelude.{◌≡◌, IfOk, map};
+ghost use Rattle.std.specs.Prelude.{◌≡◌, ◌∷◌, [], IfOk, map};
+ghost use Rattle.tf_cli.specs.Applies.{MayStart};
 ghost use Rattle.tf_provider_log.specs.LogEntry.{log_entry_of};
-ghost use Rattle.tf_recovery.specs.Outside.{IsOutcome, outside_replayed};
+ghost use Rattle.tf_recovery.specs.Outside.{IsOutcome, outside_meanings, outside_replayed};
+ghost use Rattle.tf_walk_action.specs.Words.{plan_of};
 
 use crate::notes::{Noted, Notes};
 use crate::own::{OwnEntries, entries_by_provider};
 use std::alloc::{AllocError, Global};
-use tf_cli::{Applied, Refused, Stop, apply_one, state_to_write};
+use tf_cli::{Applied, Refused, Stop, apply_one, carry_out_one, state_to_write, text_of};
 use tf_cli_files::ProgramInput;
+use tf_plan_data::Planned;
 use tf_provider::Provider;
 use tf_provider_local::LocalFile;
 use tf_provider_log::{LogEntry, copy_entries};
@@ -34,15 +37,8 @@ pub(crate) fn apply_over_log(
     ensures { IfOk result (λ applied. IsOutcome (outside_replayed (⟦<RemoteTypes as Provider>⟧.meaning types.now) (map log_entry_of entries.now)) given.now applied.answer) }
 {
     let alloc = rt.alloc();
-    let OwnEntries { remote, sim, files } = entries_by_provider(
-        rt,
-        types,
-        copy_entries(alloc, entries)?,
-    )?;
     let notes = Notes::new(alloc)?;
-    let remote = Noted::new(alloc, notes.share()?, remote, types.share()?);
-    let sim = Noted::new(alloc, notes.share()?, sim, Sim::new(alloc)?);
-    let files = Noted::new(alloc, notes.share()?, files, LocalFile::new(alloc, *rt)?);
+    let NotedProviders { remote, sim, files } = noted_providers(rt, types, entries, &notes)?;
     let mut providers: Vec<Box<dyn Provider + Sync>> = Vec::new(alloc);
     providers.push(Box::new(alloc, remote)?)?;
     providers.push(Box::new(alloc, sim)?)?;
@@ -63,4 +59,60 @@ pub(crate) fn apply_over_log(
             Err(AllocError)
         }
     }
+}
+
+/// Carries out a plan with providers that answer from their own entries of the log, and returns the requests that these don't
+/// answer. Calls no other provider.
+pub(crate) fn requests_over_log(
+    rt: &HostRuntime,
+    planned: &Planned,
+    types: &RemoteTypes,
+    entries: &[LogEntry],
+) -> Result<Vec<Request>, AllocError>
+    requires { MayStart (outside_meanings (⟦<RemoteTypes as Provider>⟧.meaning types.now)) (plan_of planned.now) }
+{
+    let alloc = rt.alloc();
+    let notes = Notes::new(alloc)?;
+    let NotedProviders { remote, sim, files } = noted_providers(rt, types, entries, &notes)?;
+    let mut providers: Vec<Box<dyn Provider + Sync>> = Vec::new(alloc);
+    providers.push(Box::new(alloc, remote)?)?;
+    providers.push(Box::new(alloc, sim)?)?;
+    providers.push(Box::new(alloc, files)?)?;
+    let Ok(text) = text_of(alloc, planned) else {
+        return Err(AllocError);
+    };
+    let answer = carry_out_one(alloc, planned, text, providers.as_slice(), &Stop::new());
+    let is_carried_out = answer.is_ok();
+    drop(state_to_write(answer));
+    if is_carried_out {
+        notes.requests(alloc)
+    } else {
+        Err(AllocError)
+    }
+}
+
+/// The providers of an apply over a log: each answers from its own entries, and notes the requests that these don't answer.
+struct NotedProviders {
+    remote: Noted<RemoteTypes>,
+    sim: Noted<Sim>,
+    files: Noted<LocalFile<HostRuntime>>,
+}
+
+/// Returns the providers of an apply over a log, with these notes.
+fn noted_providers(
+    rt: &HostRuntime,
+    types: &RemoteTypes,
+    entries: &[LogEntry],
+    notes: &Notes,
+) -> Result<NotedProviders, AllocError>
+    ensures { IfOk result (λ noted. ⟦<Noted<RemoteTypes> as Provider>⟧.meaning noted.remote ∷ ⟦<Noted<Sim> as Provider>⟧.meaning noted.sim ∷ ⟦<Noted<LocalFile<HostRuntime>> as Provider>⟧.meaning noted.files ∷ []
+        ≡ outside_replayed (⟦<RemoteTypes as Provider>⟧.meaning types.now) (map log_entry_of entries.now)) }
+{
+    let alloc = rt.alloc();
+    let copied = copy_entries(alloc, entries)?;
+    let OwnEntries { remote, sim, files } = entries_by_provider(rt, types, copied)?;
+    let remote = Noted::new(alloc, notes.share()?, remote, types.share()?);
+    let sim = Noted::new(alloc, notes.share()?, sim, Sim::new(alloc)?);
+    let files = Noted::new(alloc, notes.share()?, files, LocalFile::new(alloc, *rt)?);
+    Ok(NotedProviders { remote, sim, files })
 }

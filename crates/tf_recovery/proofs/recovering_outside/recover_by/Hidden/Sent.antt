@@ -4,7 +4,7 @@ use denote.Param.Sent.{Syncs}
 use Rattle.std.proofs.Crossing.{crosses}
 use Rattle.std.proofs.MapsCrossing as maps
 use Rattle.tf_value_data.proofs.value.Value.TheLaws.TheKnot as value
-use Rattle.tf_recovery.proofs.outside.recover_outside.OwnLists as lists
+use Rattle.tf_recovery.proofs.recovering_outside.recover_by.OwnLists as lists
 
 pub syncs-part-1-1 : Syncs lists.part-1-1
 syncs-part-1-1 = search (value.crosses, maps.crosses, crosses, sendable) depth 60 fits 20000
