@@ -3,7 +3,6 @@
 use crate::approving::AtTerminal;
 use crate::explaining::{explains, sources, warn};
 use crate::outside::apply_outside;
-use crate::providers::own_providers;
 use crate::recovering::recover;
 use crate::settling::settle;
 use std::alloc::AllocError;
@@ -46,8 +45,7 @@ pub fn apply<T: Threads + Wait + Sync, O: Write, E: Write>(
         place,
         past,
     } = seen;
-    let providers = own_providers(rt)?;
-    let past = match settle(rt, &place, &file, &given, &providers, past, err) {
+    let past = match settle(rt, &place, &file, &given, None, past, err) {
         Ok(past) => past,
         Err(status) => return Ok(status),
     };

@@ -13,7 +13,6 @@ mod pipes;
 mod planning;
 mod previewing;
 mod printing;
-mod providers;
 mod recovering;
 mod recovering_outside;
 mod remotes;

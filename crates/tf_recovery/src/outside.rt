@@ -9,7 +9,6 @@ use crate::carrying::{carried_out, check_pipes, finish, open_pipes};
 use crate::explaining::{explains, sources, warn};
 use crate::planning::print_given;
 use crate::printing::{PrintedPlan, approved_plan};
-use crate::providers::all_providers;
 use crate::recovering_outside::{preview_outside, recover_outside};
 use crate::remotes::read_types;
 use crate::session::{ApplyLog, Session};
@@ -53,7 +52,11 @@ pub(crate) fn plan_outside<O: Write, E: Write>(
     if let Err(status) = preview_outside(rt, &types, &place, &mut given, past, err)? {
         return Ok(status);
     }
-    let providers = all_providers(rt, types)?;
+    let alloc = rt.alloc();
+    let mut providers: Vec<Box<dyn Provider + Sync>> = Vec::new(alloc);
+    providers.push(Box::new(alloc, types)?)?;
+    providers.push(Box::new(alloc, Sim::new(alloc)?)?)?;
+    providers.push(Box::new(alloc, LocalFile::new(alloc, *rt)?)?)?;
     Ok(print_given(rt, &place, &given, &providers, out, err))
 }
 
@@ -86,8 +89,7 @@ pub(crate) fn apply_outside<T: Wait, O: Write, E: Write>(
         place,
         past,
     } = seen;
-    let providers = all_providers(rt, types.share()?)?;
-    let past = match settle(rt, &place, &file, &given, &providers, past, err) {
+    let past = match settle(rt, &place, &file, &given, Some(&types), past, err) {
         Ok(past) => past,
         Err(status) => return Ok(status),
     };

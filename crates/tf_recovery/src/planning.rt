@@ -4,7 +4,6 @@ use crate::approving::colours;
 use crate::explaining::{explains, sources, warn};
 use crate::outside::plan_outside;
 use crate::previewing::preview;
-use crate::providers::own_providers;
 use std::io;
 use std::io::Write;
 use std::process::ExitCode;
@@ -13,6 +12,8 @@ use tf_cli_options::Options;
 use tf_cli_program::print_plan;
 use tf_explain::Explained;
 use tf_provider::Provider;
+use tf_provider_local::LocalFile;
+use tf_provider_sim::Sim;
 
 /// Prints the plan from the state file, or from the state that an unfinished apply left, and returns the program's status.
 ///
@@ -43,7 +44,9 @@ pub fn plan<O: Write, E: Write>(
     if let Err(status) = preview(rt, &place, &mut given, past, err)? {
         return Ok(status);
     }
-    let providers = own_providers(rt)?;
+    let mut providers: Vec<Box<dyn Provider + Sync>> = Vec::new(rt.alloc());
+    providers.push(Box::new(rt.alloc(), Sim::new(rt.alloc())?)?)?;
+    providers.push(Box::new(rt.alloc(), LocalFile::new(rt.alloc(), *rt)?)?)?;
     Ok(print_given(rt, &place, &given, &providers, out, err))
 }
 

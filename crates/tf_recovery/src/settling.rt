@@ -11,9 +11,11 @@ use tf_cli_files::{
 use tf_cli_lines::verb_text;
 use tf_cli_program::{is_inspected, is_state};
 use tf_provider::Provider;
+use tf_provider_local::LocalFile;
 use tf_provider_log::{LogEntry, Unwritten, answered_line};
 use tf_provider_protocol::{Reply, Request, Verdict, asks_fully, judge, schema_for, well_formed};
-use tf_provider_remote::{CallResult, ResultsFault, read_results};
+use tf_provider_remote::{CallResult, RemoteTypes, ResultsFault, read_results};
+use tf_provider_sim::Sim;
 
 /// Adds the results of the calls in flight to the log of an unfinished apply, if the options name a file of them, and returns what
 /// the log records then. If the file isn't of exactly these calls, or the given state isn't the one that the apply began with, prints
@@ -23,7 +25,7 @@ pub(crate) fn settle<E: Write>(
     place: &Place,
     file: &File,
     given: &ProgramInput,
-    providers: &[Box<dyn Provider + Sync>],
+    types: Option<&RemoteTypes>,
     past: Option<(Past, Vec<LogEntry>)>,
     err: &mut E,
 ) -> Result<Option<(Past, Vec<LogEntry>)>, ExitCode> {
@@ -33,7 +35,7 @@ pub(crate) fn settle<E: Write>(
                 return Err(tell_other_state(name.as_str(), place, err));
             }
             let in_flight = found.in_flight.as_slice();
-            add_results(rt, place, file, name.as_str(), in_flight, providers, err)?;
+            add_results(rt, place, file, name.as_str(), in_flight, types, err)?;
             see_past(rt, place, err)
         }
         _ => Ok(past),
@@ -58,21 +60,46 @@ fn add_results<E: Write>(
     file: &File,
     name: &str,
     in_flight: &[Request],
-    providers: &[Box<dyn Provider + Sync>],
+    types: Option<&RemoteTypes>,
     err: &mut E,
 ) -> Result<(), ExitCode> {
     let Ok(text) = fs::read(rt, name) else {
         return Err(tell_unread(name, err));
     };
-    match answers(rt.alloc(), text.as_slice(), in_flight, providers) {
-        Ok(lines) => match append(rt, place, file, lines.as_str()) {
-            Ok(()) => Ok(()),
-            Err(_) => Err(tell_no_log(place.log.as_str(), err)),
-        },
-        Err(Misfit::OutOfMemory) => Err(tell_no_memory(err)),
+    let lines = match answers_by(rt, name, text.as_slice(), in_flight, types, err) {
+        Ok(Ok(lines)) => lines,
+        Ok(Err(status)) => return Err(status),
+        Err(AllocError) => return Err(tell_no_memory(err)),
+    };
+    match append(rt, place, file, lines.as_str()) {
+        Ok(()) => Ok(()),
+        Err(_) => Err(tell_no_log(place.log.as_str(), err)),
+    }
+}
+
+/// Returns the log's lines of the results in a text. The providers are those of these types, if there are any, and the programs' own.
+/// If the text isn't of exactly the calls in flight, prints that.
+fn answers_by<E: Write>(
+    rt: &HostRuntime,
+    name: &str,
+    text: &[u8],
+    in_flight: &[Request],
+    types: Option<&RemoteTypes>,
+    err: &mut E,
+) -> Result<Result<String, ExitCode>, AllocError> {
+    let alloc = rt.alloc();
+    let mut providers: Vec<Box<dyn Provider + Sync>> = Vec::new(alloc);
+    if let Some(types) = types {
+        providers.push(Box::new(alloc, types.share()?)?)?;
+    }
+    providers.push(Box::new(alloc, Sim::new(alloc)?)?)?;
+    providers.push(Box::new(alloc, LocalFile::new(alloc, *rt)?)?)?;
+    match answers(alloc, text, in_flight, &providers) {
+        Ok(lines) => Ok(Ok(lines)),
+        Err(Misfit::OutOfMemory) => Err(AllocError),
         Err(fault) => {
             let _ = writeln!(err, "error: {name}: {fault}");
-            Err(ExitCode::FAILURE)
+            Ok(Err(ExitCode::FAILURE))
         }
     }
 }
