@@ -87,7 +87,7 @@ fn request_with<R: Results>(
     let actions = plan.actions.as_slice();
     let objects = objects_before(plan, names, action, results);
     let mut kept = Vec::new(alloc);
-    ask_provider(
+    match ask_provider(
         alloc,
         plan,
         names,
@@ -95,7 +95,10 @@ fn request_with<R: Results>(
         &actions[action],
         &objects,
         &mut kept,
-    )
+    ) {
+        Ok(made) => Ok(made),
+        Err(_) => Err(AllocError),
+    }
 }
 
 /// Returns the objects of instances after the actions directly before an action.

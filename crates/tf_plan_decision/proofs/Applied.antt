@@ -8,7 +8,7 @@ use Rattle.tf_provider_protocol.specs.Verdict.{contradiction, well_formed}
 use Rattle.tf_state_data.specs.Record.{RecordView}
 use Rattle.tf_value_data.specs.Tree.{Tree}
 use Rattle.tf_plan_decision.specs.Decision.{DecisionView, nothing, create, update, replace, change, DecisionFaultView, unless_prevented, decided, unless_unfit, current}
-use Rattle.tf_plan_decision.specs.Ignored.{heeding, ignored_fault}
+use Rattle.tf_plan_decision.specs.Ignored.{with_ignored_changes, ignored_fault}
 use Rattle.tf_plan_decision.specs.Laws.{AnswersStay, IsAnswer, asked}
 use Rattle.tf_plan_decision.specs.Prior.{PriorFaultView, first_unfit, prior_fault, record_fault}
 use Rattle.tf_plan_decision.proofs.Causes.{fit_is}
@@ -29,7 +29,7 @@ prevented_keeps true (update t names) d e = ok_is (update t names) d e
 prevented_keeps true (replace t names) d e = absurd (cc)
 
 -- where something is decided, no name is at fault
-heeded : (schema : SchemaView) (lifecycle : LifecycleView) (prior : Option RecordView) (planned : Tree) (d : DecisionView) (name : Option (List ℕ)) → decided schema lifecycle prior (heeding name (Ok planned)) ≡ Ok d
+heeded : (schema : SchemaView) (lifecycle : LifecycleView) (prior : Option RecordView) (planned : Tree) (d : DecisionView) (name : Option (List ℕ)) → decided schema lifecycle prior (with_ignored_changes name (Ok planned)) ≡ Ok d
     → (name ≡ None) × (change schema lifecycle.ignore_changes prior planned ≡ d)
 heeded schema lifecycle prior planned d None e = (refl, prevented_keeps lifecycle.prevent_destroy (change schema lifecycle.ignore_changes prior planned) d e)
 heeded schema lifecycle prior planned d (Some name) e = absurd (cc)
@@ -52,7 +52,7 @@ answers_stay schema lifecycle records r planned t d good named decides asks answ
     let prior = current records in
     let all = heeded schema lifecycle prior planned d (ignored_fault schema lifecycle.ignore_changes) (fit_is (first_unfit schema records) _ d decides) in
     let none : change schema lifecycle.ignore_changes (Some r) planned ≡ nothing = replies_stay schema lifecycle.ignore_changes prior r planned t good named (ap asked all.1 ∙ asks) answer.good settled answer.untainted in
-    ap (λ (o : Option PriorFaultView). unless_unfit (option_or o None) (decided schema lifecycle (current (r ∷ [])) (heeding (ignored_fault schema lifecycle.ignore_changes) (Ok planned)))) (answer_fits schema t r answer)
-    ∙ (ap (λ (o : Option RecordView). decided schema lifecycle o (heeding (ignored_fault schema lifecycle.ignore_changes) (Ok planned))) (answer_current schema t r answer)
-    ∙ (ap (λ (o : Option (List ℕ)). decided schema lifecycle (Some r) (heeding o (Ok planned))) all.0
+    ap (λ (o : Option PriorFaultView). unless_unfit (option_or o None) (decided schema lifecycle (current (r ∷ [])) (with_ignored_changes (ignored_fault schema lifecycle.ignore_changes) (Ok planned)))) (answer_fits schema t r answer)
+    ∙ (ap (λ (o : Option RecordView). decided schema lifecycle o (with_ignored_changes (ignored_fault schema lifecycle.ignore_changes) (Ok planned))) (answer_current schema t r answer)
+    ∙ (ap (λ (o : Option (List ℕ)). decided schema lifecycle (Some r) (with_ignored_changes o (Ok planned))) all.0
     ∙ (ap (unless_prevented lifecycle.prevent_destroy) none ∙ nothing_prevented lifecycle.prevent_destroy)))

@@ -7,7 +7,7 @@ use Rattle.tf_value_data.specs.Tree.{Tree}
 use Rattle.tf_value_data.proofs.Conjunction.{and-both}
 use Rattle.tf_plan_decision.specs.Decision.{DecisionView, nothing, create, update, replace, update_or_replace, by_differing, beside, change, DecisionFaultView, unless_prevented, decided, unless_unfit, current}
 use Rattle.tf_plan_decision.specs.Differing.{differing, forces_new, forcing}
-use Rattle.tf_plan_decision.specs.Ignored.{heeding, ignored_fault}
+use Rattle.tf_plan_decision.specs.Ignored.{with_ignored_changes, ignored_fault}
 use Rattle.tf_plan_object.specs.Kept.{kept_object}
 use Rattle.tf_plan_decision.specs.Laws.{CreatesAreFirst, UpdatesDiffer, IsForced, ReplacesHaveACause, PreventedStay}
 use Rattle.tf_plan_decision.specs.Prior.{PriorFaultView, first_unfit}
@@ -134,7 +134,7 @@ fit_is (Some fault) r d e = absurd (cc)
 
 pub prevented_stay : PreventedStay
 prevented_stay schema lifecycle records planned t names e =
-    heeded (heeding (ignored_fault schema lifecycle.ignore_changes) planned) (fit_is (first_unfit schema records) _ (replace t names) e)
+    heeded (with_ignored_changes (ignored_fault schema lifecycle.ignore_changes) planned) (fit_is (first_unfit schema records) _ (replace t names) e)
   where
     heeded : (planned : Result Tree InstanceFaultView) → decided schema lifecycle (current records) planned ≡ Ok (replace t names) → lifecycle.prevent_destroy ≡ false
     heeded (Ok p) h = prevented_is lifecycle.prevent_destroy (change schema lifecycle.ignore_changes (current records) p) t names h

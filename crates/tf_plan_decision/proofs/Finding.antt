@@ -19,7 +19,7 @@ use Rattle.tf_plan_decision.specs.Rows.{nothing_decided}
 use Rattle.tf_plan_decision.specs.declared.settling.Settled.{Settled}
 use Rattle.tf_plan_decision.specs.Decision as decision
 use Rattle.tf_plan_decision.specs.Decision.{DecisionView, DecisionFaultView, current, decided, removal_fault, unless_prevented, unless_unfit}
-use Rattle.tf_plan_decision.specs.Ignored.{heeding, ignored_fault}
+use Rattle.tf_plan_decision.specs.Ignored.{with_ignored_changes, ignored_fault}
 use Rattle.tf_plan_decision.specs.Prior.{PriorFaultView, first_unfit}
 use Rattle.tf_plan_decision.specs.Whole.{block_instances}
 use Rattle.tf_expand_keys.specs.InstanceKeys.{InstanceKeysView, one, many, named, instance_keys, list_of, map_under, objects_at}
@@ -121,8 +121,8 @@ module _ (schema : SchemaView) (lifecycle : LifecycleView) where
     stood_is (Err why) e = refl
     stood_is (Ok d) e =
         by_current (current records) d
-        (λ none. only_created (first_unfit schema records) (heeding (ignored_fault schema lifecycle.ignore_changes) planned) d
-        (ap (λ (o : Option RecordView). unless_unfit (first_unfit schema records) (decided schema lifecycle o (heeding (ignored_fault schema lifecycle.ignore_changes) planned))) (sym none) ∙ e))
+        (λ none. only_created (first_unfit schema records) (with_ignored_changes (ignored_fault schema lifecycle.ignore_changes) planned) d
+        (ap (λ (o : Option RecordView). unless_unfit (first_unfit schema records) (decided schema lifecycle o (with_ignored_changes (ignored_fault schema lifecycle.ignore_changes) planned))) (sym none) ∙ e))
 
 -- ---- the objects of all
 

@@ -9,7 +9,7 @@ use Rattle.tf_plan_decision.specs.Outcome.{OutcomeView}
 use Rattle.tf_plan_decision.specs.Answer.{decision_fault_of}
 use Rattle.tf_plan_decision.specs.Decision.{DecisionFaultView}
 use Rattle.tf_plan_decision.specs.declared.collecting.Decided.{Decided}
-use Rattle.tf_plan_decision.specs.declared.collecting.OutcomeOf.{OutcomeOf}
+use Rattle.tf_plan_decision.specs.declared.collecting.ResourceHeader.{ResourceHeader}
 use Rattle.tf_plan_decision.specs.declared.collecting.RefusedInstance.{RefusedInstance}
 use Rattle.tf_plan_order.specs.Members.{InstanceToPlanView}
 use Rattle.tf_provider_protocol.specs.Meaning.{Meaning, schema_in}
@@ -90,5 +90,5 @@ refused_of r = record { addr = addr_of r.addr; key = instance_key_of r.key; why 
 abbrev pub decided_of : Decided → DecidedView
 decided_of d = record { actions = map action_of d.actions.items; refusals = map refused_of d.refusals.items }
 
-abbrev pub of_view : OutcomeOf → OfView
+abbrev pub of_view : ResourceHeader → OfView
 of_view of = record { resource = of.resource; addr = addr_of of.addr.now; version = of.version }

@@ -7,7 +7,7 @@ use Rattle.tf_provider_protocol.specs.Schema.{SchemaView}
 use Rattle.tf_state_data.specs.Record.{RecordView}
 use Rattle.tf_value_data.specs.Tree.{Tree}
 use Rattle.tf_plan_decision.specs.Differing.{differing, forcing}
-use Rattle.tf_plan_decision.specs.Ignored.{heeding, ignored_fault}
+use Rattle.tf_plan_decision.specs.Ignored.{with_ignored_changes, ignored_fault}
 use Rattle.tf_plan_object.specs.Kept.{kept_object}
 use Rattle.tf_plan_decision.specs.Prior.{PriorFaultView, first_unfit}
 
@@ -72,7 +72,7 @@ unless_unfit (Some fault) r = Err (unfit fault)
 -- including names in `ignore_changes`, and last, with `prevent_destroy`, a replace of the current object.
 abbrev pub decision : SchemaView → LifecycleView → List RecordView → Result Tree InstanceFaultView → Result DecisionView DecisionFaultView
 decision schema lifecycle records planned =
-    unless_unfit (first_unfit schema records) (decided schema lifecycle (current records) (heeding (ignored_fault schema lifecycle.ignore_changes) planned))
+    unless_unfit (first_unfit schema records) (decided schema lifecycle (current records) (with_ignored_changes (ignored_fault schema lifecycle.ignore_changes) planned))
 
 -- `prevent_destroy` protects the current object of a configured resource. Deposed objects aren't protected.
 abbrev pub is_protected : Option LifecycleView → List RecordView → Bool

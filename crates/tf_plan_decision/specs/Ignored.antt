@@ -22,8 +22,8 @@ sooner_fault old new = if is_below new.0 old.0 then new else old
 
 -- What is planned for an instance. A name in `ignore_changes` that no attribute has is as bad as an argument of that
 -- name: of all names with a fault the first in byte order is reported. A fault of `for_each` comes before them.
-abbrev pub heeding : Option (List ℕ) → Result Tree InstanceFaultView → Result Tree InstanceFaultView
-heeding None planned = planned
-heeding (Some name) (Ok t) = Err (argument_fault (name, BadArgument))
-heeding (Some name) (Err (for_each_fault why)) = Err (for_each_fault why)
-heeding (Some name) (Err (argument_fault found)) = Err (argument_fault (sooner_fault found (name, BadArgument)))
+abbrev pub with_ignored_changes : Option (List ℕ) → Result Tree InstanceFaultView → Result Tree InstanceFaultView
+with_ignored_changes None planned = planned
+with_ignored_changes (Some name) (Ok t) = Err (argument_fault (name, BadArgument))
+with_ignored_changes (Some name) (Err (for_each_fault why)) = Err (for_each_fault why)
+with_ignored_changes (Some name) (Err (argument_fault found)) = Err (argument_fault (sooner_fault found (name, BadArgument)))

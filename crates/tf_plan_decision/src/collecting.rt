@@ -45,7 +45,7 @@ pub struct Decided {
 
 /// A resource, as its actions name it.
 #[derive(Drop)]
-pub(crate) struct OutcomeOf<'a> {
+pub(crate) struct ResourceHeader<'a> {
     /// The number of the resource.
     pub(crate) resource: usize,
     /// Its address.
@@ -80,7 +80,7 @@ impl Decided {
     /// Adds the outcomes of the members of a configured resource.
     pub(crate) fn add_settled(
         &mut self,
-        of: &OutcomeOf<'_>,
+        of: &ResourceHeader<'_>,
         settled: Vec<Settled<'_>>,
     ) -> Result<(), AllocError>
         ensures { OnOk result (decided_of self.new ≡ with_settled (of_view of.now) (map settled_of settled.entry.items) (decided_of self.old)) }
@@ -113,7 +113,7 @@ impl Decided {
     {
         let schema = schema_for(providers, orphan.addr().type_name.as_str());
         let members = members(alloc, &[], orphan.records())?;
-        let of = OutcomeOf {
+        let of = ResourceHeader {
             resource: place,
             addr: orphan.addr(),
             version: version_of(schema),
@@ -136,7 +136,7 @@ pub(crate) fn version_of(schema: Option<&Schema>) -> u32
 fn add_gone(
     alloc: Global,
     decided: &mut Decided,
-    of: &OutcomeOf<'_>,
+    of: &ResourceHeader<'_>,
     schema: Option<&Schema>,
     members: &[InstanceToPlan<'_>],
 ) -> Result<(), AllocError>
@@ -154,7 +154,7 @@ fn add_gone(
 /// Adds the outcome of an instance.
 fn add_outcome(
     decided: &mut Decided,
-    of: &OutcomeOf<'_>,
+    of: &ResourceHeader<'_>,
     instance: usize,
     key: &InstanceKey,
     outcome: Result<Vec<Step>, DecisionFault>,
@@ -177,7 +177,7 @@ fn add_outcome(
 /// Adds the actions of an instance.
 fn add_steps(
     decided: &mut Decided,
-    of: &OutcomeOf<'_>,
+    of: &ResourceHeader<'_>,
     instance: usize,
     key: &InstanceKey,
     steps: Vec<Step>,

@@ -9,7 +9,7 @@ ghost use Rattle.tf_plan_decision.specs.Answer.{answer_of, decision_of, decision
 ghost use Rattle.tf_plan_decision.specs.Decision.{beside, change, current, decision, is_protected, removal_fault, unless_prevented};
 
 use crate::differing::{differing, forcing};
-use crate::ignored::{heeding, ignored_fault};
+use crate::ignored::{ignored_fault, with_ignored_changes};
 use crate::prior::{PriorFault, first_unfit};
 use std::alloc::{AllocError, Global};
 use tf_config_data::Lifecycle;
@@ -70,7 +70,7 @@ pub(crate) fn decide(
         return Ok(Err(DecisionFault::Unfit(fault)));
     }
     let name = ignored_fault(schema, &lifecycle.ignore_changes);
-    match heeding(alloc, name, planned)? {
+    match with_ignored_changes(alloc, name, planned)? {
         Ok(planned) => {
             let ignored = &lifecycle.ignore_changes;
             let change = change(alloc, schema, ignored, current(records), planned)?;

@@ -3,7 +3,7 @@
 ghost use Rattle.std.specs.Prelude.{◌≡◌, IfOk, map, option_map, string_bytes};
 ghost use Rattle.tf_plan_object.specs.Instance.{argument_fault, instance_fault_of, instance_of};
 ghost use Rattle.tf_plan_object.specs.declared.argument.ArgumentFault.TheVariants.{BadArgument};
-ghost use Rattle.tf_plan_decision.specs.Ignored.{heeding, ignored_fault, sooner_fault};
+ghost use Rattle.tf_plan_decision.specs.Ignored.{with_ignored_changes, ignored_fault, sooner_fault};
 
 use crate::names::sooner;
 use std::alloc::{AllocError, Global};
@@ -26,12 +26,12 @@ pub fn ignored_fault<'a>(schema: &Schema, ignored: &'a [String]) -> Option<&'a s
 
 /// Adds to what is planned for an instance a bad argument for a name in `ignore_changes` that no attribute has, if
 /// there is one.
-pub(crate) fn heeding(
+pub(crate) fn with_ignored_changes(
     alloc: Global,
     name: Option<&str>,
     planned: Result<Value, InstanceFault>,
 ) -> Result<Result<Value, InstanceFault>, AllocError>
-    ensures { IfOk result (λ heeded. instance_of heeded ≡ heeding (option_map (λ s. s.now) name.entry) (instance_of planned)) }
+    ensures { IfOk result (λ heeded. instance_of heeded ≡ with_ignored_changes (option_map (λ s. s.now) name.entry) (instance_of planned)) }
 {
     match name {
         None => Ok(planned),

@@ -27,4 +27,4 @@ pub use ignored::ignored_fault;
 pub use outcome::{member_outcome, orphan_outcome};
 pub use planned_values::PlannedValues;
 pub use prior::{PriorFault, prior_fault};
-pub use whole::{InOrder, decide_in_order, gather};
+pub use whole::{DecidedNames, decide_in_order, gather};

@@ -8,7 +8,7 @@ ghost use Rattle.tf_plan_decision.specs.Whole.{block_instances};
 ghost use Rattle.tf_plan_order.specs.MemberViews.{member_of};
 ghost use Rattle.tf_state_data.specs.State.{state_of};
 
-use crate::collecting::{Decided, OutcomeOf, version_of};
+use crate::collecting::{Decided, ResourceHeader, version_of};
 use crate::objects::{records_at, settled_standing};
 use crate::settling::settle;
 use std::alloc::{AllocError, Global};
@@ -62,7 +62,7 @@ pub(crate) fn decide_block<S: Scope>(
     let members = block_members(alloc, stage.state, shape, resource.addr, resource.block)?;
     let settled = settle(alloc, schema, resource, members.as_slice())?;
     let resolved = settled_standing(alloc, shape, settled.as_slice(), is_wanted)?;
-    let of = OutcomeOf {
+    let of = ResourceHeader {
         resource: resource.place,
         addr: resource.addr,
         version: version_of(schema),

@@ -30,7 +30,7 @@ use tf_provider_protocol::Provider;
 
 /// The values of names, and the decisions about each, by their places.
 #[derive(Drop)]
-pub struct InOrder {
+pub struct DecidedNames {
     /// The value of each wanted name.
     pub resolved_names: Vec<Resolved>,
     /// The decisions about the instances of each name.
@@ -49,7 +49,7 @@ pub fn decide_in_order(
     stage: &PlannedValues<'_>,
     declared: &Module,
     wanted: &[bool],
-) -> Result<InOrder, AllocError>
+) -> Result<DecidedNames, AllocError>
     requires closed { AreClosed (names_in declared.now.names.now) wanted.now }
     requires needed { NeedsAreWanted (names_in declared.now.names.now) wanted.now }
     ensures resolved_names { IfOk result (λ r. AreResolved (deciding (map meaning stage.now.providers.now) (state_of stage.now.state.now).resources (shapes_of stage.now.shapes.now))
@@ -57,7 +57,7 @@ pub fn decide_in_order(
     ensures rows { IfOk result (λ r. AreDecided (map meaning stage.now.providers.now) (state_of stage.now.state.now).resources (entries_view declared.now.variables.now.entries)
         (names_in declared.now.names.now) (shapes_of stage.now.shapes.now) (order_in declared.now.dependence.now) (rows_of r.rows.items)) }
 {
-    decide_along(
+    decide_in_topological_order(
         alloc,
         stage,
         declared,
@@ -67,13 +67,13 @@ pub fn decide_in_order(
 }
 
 /// Decides about the names in a list in which each comes after all that it needs.
-fn decide_along(
+fn decide_in_topological_order(
     alloc: Global,
     stage: &PlannedValues<'_>,
     declared: &Module,
     order: &[usize],
     wanted: &[bool],
-) -> Result<InOrder, AllocError>
+) -> Result<DecidedNames, AllocError>
     requires order { IsInOrder (directly_before (names_in declared.now.names.now)) order.now }
     requires within { (n : ℕ) → Contains order.now n → n < length (names_in declared.now.names.now) }
     requires closed { AreClosed (names_in declared.now.names.now) wanted.now }
@@ -92,7 +92,7 @@ fn decide_along(
         kept[*place] = resolved;
         rows[*place] = decided;
     }
-    Ok(InOrder {
+    Ok(DecidedNames {
         resolved_names: kept,
         rows,
     })

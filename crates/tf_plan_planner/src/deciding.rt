@@ -19,7 +19,7 @@ use tf_config_refusal::Refusal;
 use tf_expand_keys::{InstanceKeys, Module};
 use tf_expr_syntax::Expr;
 use tf_plan_data::Action;
-use tf_plan_decision::{Decided, InOrder, PlannedValues, decide_in_order, gather};
+use tf_plan_decision::{Decided, DecidedNames, PlannedValues, decide_in_order, gather};
 use tf_plan_order::{ResourceIndex, address_order};
 use tf_provider_protocol::Provider;
 use tf_state_data::State;
@@ -72,7 +72,7 @@ fn look_at_names(
     given: &PlanInput,
     shapes: &[InstanceKeys],
     providers: &[Box<dyn Provider + Sync>],
-) -> Result<InOrder, AllocError>
+) -> Result<DecidedNames, AllocError>
     requires { IsGiven given.now }
     ensures resolved_names { IfOk result (λ looked. (resolved_names : ℕ → ResolvedView)
         → AreResolvedNames (deciding (map meaning providers.now) (resources_given given.now) (shapes_of shapes.now)) (variables_given given.now) (names_given given.now) resolved_names
@@ -96,7 +96,7 @@ fn plan_places(
     alloc: Global,
     given: &PlanInput,
     providers: &[Box<dyn Provider + Sync>],
-    looked: InOrder,
+    looked: DecidedNames,
     places: &[usize],
 ) -> Result<PlannedInstances, AllocError>
     requires given { IsGiven given.now }
@@ -104,7 +104,7 @@ fn plan_places(
     ensures { IfOk result (λ planned. planned_of planned ≡ with_outputs (variables_given given.now) (names_given given.now) (resolved_names_of looked.resolved_names.items) (outputs_given given.now)
         (gathered (map meaning providers.now) (rows_of looked.rows.items) (numbered (names_given given.now) (resources_given given.now)) places.now)) }
 {
-    let InOrder {
+    let DecidedNames {
         resolved_names,
         rows,
     } = looked;

@@ -22,8 +22,8 @@ use tf_tally::{Part, Tally};
 use tf_walk_action::Stop;
 use tf_walk_report::Walked;
 use tf_walk_workers::{
-    BorrowedInput, CallRecord, Log, ResultCells, SharedWalk, WalkBrand, WalkProgress, WorkerEnd,
-    share_out,
+    BorrowedInput, CallRecord, Log, ResultCells, SharedWalk, WalkBrand, WalkClaims, WalkProgress,
+    WorkerEnd, share_out,
 };
 
 /// The largest number of workers.
@@ -119,6 +119,7 @@ fn run_as<N: WalkBrand + Send + Sync, R: Threads + Wait + Sync>(
     mut part: Part<CallRecord>,
 ) -> Result<(Walked, bool), AllocError>
     requires tally { tally.now ≡ N.table }
+    requires flag { stop.now ≡ N.flag }
     requires team { 0 < team }
     requires part { HasParts N.table (2 + team + plan.now.order.nodes) [] [] part }
     requires whole { part.holding.whole ≡ 2 + team + plan.now.order.nodes }
@@ -148,6 +149,7 @@ fn carry_out<N: WalkBrand + Send + Sync, R: Threads + Wait + Sync>(
     prepared: PreparedWalk<'_, N>,
 ) -> (Walked, bool)
     requires tally { tally.now ≡ N.table }
+    requires flag { stop.now ≡ N.flag }
     requires part { HasParts N.table 1 [] [] part }
     requires whole { part.holding.whole ≡ 2 + team + plan.now.order.nodes }
     requires fits { FitsTogether plan.now }
@@ -178,10 +180,11 @@ fn carry_out<N: WalkBrand + Send + Sync, R: Threads + Wait + Sync>(
         names: &names,
         cells: &cells,
     };
+    let walk_claims = WalkClaims::of(&claims);
     let walk = SharedWalk {
         alloc,
         stop,
-        claims: &claims,
+        claims: &walk_claims,
         tally,
         journal: &journal,
         stealers: stealers.as_slice(),

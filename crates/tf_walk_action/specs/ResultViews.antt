@@ -1,5 +1,5 @@
 -- The result of an action, as the walk stores it.
-use Rattle.std.specs.Prelude.{ℕ, List, map, Option, Some, None, Contains, ⊤}
+use Rattle.std.specs.Prelude.{◌≡◌, ℕ, List, map, Option, Some, None, Contains, ⊤}
 use Rattle.tf_plan_object.specs.Instance.{instance_fault_of}
 use Rattle.tf_graph.specs.Digraph.{Digraph, predecessors_of}
 use Rattle.tf_provider_protocol.specs.Meaning.{Asked, Answer, asked, answered}
@@ -12,8 +12,8 @@ use Rattle.tf_walk_action.specs.declared.action_result.ActionResult.TheVariants 
 
 abbrev pub action_result_of : ActionResult → ActionResultView
 action_result_of (ended.Skipped w b) = skipped
-action_result_of (ended.NotAsked w) = excused before_call
-action_result_of (ended.NotServed u) = excused during_call
+action_result_of (ended.NotAsked w u) = excused before_call
+action_result_of (ended.NotServed u t) = excused during_call
 action_result_of (ended.Left w s) = excused by_stop
 action_result_of (ended.Faulted f w) = faulted (instance_fault_of f.fault)
 action_result_of (ended.Called s) = called (asked s.call.request) (answered s.call.reply) s.call.verdict
@@ -21,8 +21,8 @@ action_result_of (ended.Called s) = called (asked s.call.request) (answered s.ca
 -- the action of a result, as the evidence in it says
 abbrev pub ended_action : ActionResult → ℕ
 ended_action (ended.Skipped w b) = w
-ended_action (ended.NotAsked w) = w
-ended_action (ended.NotServed u) = u
+ended_action (ended.NotAsked w u) = w
+ended_action (ended.NotServed u t) = u
 ended_action (ended.Left w s) = w
 ended_action (ended.Faulted f w) = w
 ended_action (ended.Called s) = s.call.action
@@ -31,6 +31,14 @@ ended_action (ended.Called s) = s.call.action
 abbrev pub HasCause : Digraph → ActionResult → Type 0
 HasCause order (ended.Skipped w b) = Contains (predecessors_of order w) b
 HasCause order _ = ⊤
+
+-- A result that depends on a look at a walk's flag has the evidence of a look at the flag with this mark: that it was set, if
+-- the action was left; that it wasn't, if the provider was called.
+abbrev pub IsByFlag : ℕ → ActionResult → Type 0
+IsByFlag flag (ended.NotServed u t) = t ≡ flag
+IsByFlag flag (ended.Left w s) = s ≡ flag
+IsByFlag flag (ended.Called s) = s.in_time ≡ flag
+IsByFlag flag _ = ⊤
 
 -- the result of an action if it is known; otherwise it counts as skipped
 abbrev pub result_or_skipped : Option ActionResult → ActionResultView

@@ -11,7 +11,7 @@ pub use Rattle.tf_graph.specs.Digraph.{predecessors_of}
 pub use Rattle.tf_provider.specs.Entries.{fault_of}
 pub use Rattle.tf_config_names.specs.Texts.{put_text}
 pub use Rattle.tf_walk_action.specs.Asked.{AreRequests, asked_for, create_of, destroy_of, ignored_by, Requests, unless_faulty, update_of}
-pub use Rattle.tf_walk_action.specs.ResultViews.{HasCause, action_result_of, result_or_skipped, action_results_of, ended_action}
+pub use Rattle.tf_walk_action.specs.ResultViews.{HasCause, IsByFlag, action_result_of, result_or_skipped, action_results_of, ended_action}
 pub use Rattle.tf_walk_action.specs.Storable.{has_stored_attributes}
 pub use Rattle.tf_walk_action.specs.Journal.{entered_verdict, IsJournal, IsOfAction, op_at}
 pub use Rattle.tf_walk_action.specs.Message.{fault_message}

@@ -8,15 +8,17 @@ ghost use Rattle.tf_walk_action.specs.Room.{message_fits};
 ghost use Rattle.tf_value_data.specs.Tree.{tree_of};
 
 use crate::not_good::NotGood;
-use crate::stop::Stopped;
+use crate::stop::{InTime, Stopped};
+use crate::unasked::Unasked;
 use tf_plan_object::InstanceFault;
 use tf_provider::{Judged, Unserved, Waived};
 
-/// A call whose provider had memory, and an empty text with space for each message about its reply. It can be neither
-/// copied nor dropped.
+/// A call whose provider had memory, an empty text with space for each message about its reply, and the evidence of the look
+/// at the walk's flag before it. It can be neither copied nor dropped.
 pub struct Served {
     pub call: Judged,
     pub message: String,
+    pub in_time: InTime,
     pub ghost blank: { string_bytes message ≡ [] },
     pub ghost fits: { message_fits (string_capacity message) (option_map tree_of call.request.object) ≡ true },
     pub ghost planned: { asks_planned call.request.op (option_map tree_of call.request.object) ≡ true },
@@ -30,16 +32,16 @@ pub struct Faulted {
     pub ghost told: { string_bytes message ≡ fault_message (instance_fault_of fault) },
 }
 
-/// The result of an action, with the evidence of whether its provider was called. So an action that was called can't
-/// be reported as one that wasn't. As it may hold a reply, it can be neither copied nor dropped: it has to become a
+/// The result of an action, with the evidence of whether its provider was called, and why not. So an action that was called
+/// can't be reported as one that wasn't, and one that a stop left can't be reported as out of memory. As it may hold a reply, it can be neither copied nor dropped: it has to become a
 /// part of the report.
 pub enum ActionResult {
     /// It was skipped, since an action directly before it isn't good. `NotGood` is the evidence.
     Skipped(Waived, NotGood),
     /// Memory ran out before the call.
-    NotAsked(Waived),
+    NotAsked(Waived, Unasked),
     /// The provider had no memory.
-    NotServed(Unserved),
+    NotServed(Unserved, InTime),
     /// The walk was stopped, so nothing was requested.
     Left(Waived, Stopped),
     /// Its `for_each` or an argument has a fault, so nothing could be requested.

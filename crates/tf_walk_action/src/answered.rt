@@ -19,7 +19,7 @@ use tf_walk_names::Results;
 /// The objects of instances after some actions of a plan: those that providers answered to these actions, and the
 /// prior objects of all other instances. Requests and outputs are evaluated with it.
 #[derive(Drop)]
-pub struct Answered<'a> {
+pub struct ResultObjects<'a> {
     /// The names of the plan's configuration.
     pub names: &'a Declarations<'a>,
     /// The state that the plan starts from.
@@ -32,7 +32,7 @@ pub struct Answered<'a> {
     pub results: &'a [Option<ActionResult>],
 }
 
-impl Results for Answered<'_> {
+impl Results for ResultObjects<'_> {
     ghost objects = { λ s. objects_seen (names_in s.names.now) (state_of s.prior.now) (map action_of s.actions.now) (seen_by (done_at (action_results_of s.results.now)) s.seen.now) };
 
     fn object(&self, alloc: Global, place: usize, key: &InstanceKey) -> Result<Value, AllocError> {

@@ -9,9 +9,10 @@ ghost use Rattle.tf_walk_action.specs.Asked.{op_of};
 
 use crate::action_result::Faulted;
 use crate::messages::faulted;
-use crate::objects::Task;
+use crate::objects::RequestBuilder;
 use crate::prepared_call::PreparedCall;
 use crate::rooms::{least_room, reserve_message};
+use crate::unasked::Unasked;
 use std::alloc::{AllocError, Global};
 use tf_config_names::Declarations;
 use tf_expand_keys::Resolved;
@@ -25,7 +26,7 @@ use tf_walk_names::Results;
 /// fault. Instances have the objects of `results`.
 ///
 /// `kept` holds the values of names by these results, by place. It is empty at first, and gains the values of the
-/// names in the action's block. So actions that share it evaluate each local once, and collect each resource's
+/// names in the action's block. So actions that assert_sync it evaluate each local once, and collect each resource's
 /// objects once.
 ///
 /// # Errors
@@ -39,7 +40,7 @@ pub fn ask_provider<R: Results>(
     action: &Action,
     results: &R,
     kept: &mut Vec<Resolved>,
-) -> Result<Result<PreparedCall, Faulted>, AllocError>
+) -> Result<Result<PreparedCall, Faulted>, Unasked>
     requires fits { FitsTogether plan.now }
     requires names { names_in names.now ≡ names_of (config_of plan.now.config) }
     requires declared { IsDeclared (names_of (config_of plan.now.config)) (action_of action.now) }
@@ -55,7 +56,7 @@ pub fn ask_provider<R: Results>(
 {
     match schema_for(providers, action.addr.type_name.as_str()) {
         Some(schema) => {
-            let task = Task {
+            let task = RequestBuilder {
                 alloc,
                 plan,
                 names,
@@ -63,13 +64,16 @@ pub fn ask_provider<R: Results>(
                 action,
                 results,
             };
-            task.ask(kept)
+            match task.ask(kept) {
+                Ok(made) => Ok(made),
+                Err(error) => Err(Unasked::of(error)),
+            }
         }
         None => unreachable!(),
     }
 }
 
-impl<R: Results> Task<'_, '_, R> {
+impl<R: Results> RequestBuilder<'_, '_, R> {
     /// Builds the action's request, or its fault.
     fn ask(&self, kept: &mut Vec<Resolved>) -> Result<Result<PreparedCall, Faulted>, AllocError>
         requires fits { FitsTogether self.now.plan.now }

@@ -8,6 +8,7 @@ ghost use Rattle.tf_walk_action.specs.declared.action_result.ActionResult.TheVar
 use crate::action_result::{ActionResult, Faulted};
 use crate::not_good::NotGood;
 use crate::stop::Stopped;
+use crate::unasked::Unasked;
 use tf_claim::{Finished, Permit};
 use tf_provider::{Verdict, waive_for};
 
@@ -23,12 +24,12 @@ impl ActionResult {
     }
 
     /// Ends an action for whose request memory ran out. Also returns the right to report it as done.
-    pub fn not_asked(permit: Permit) -> (ActionResult, Finished)
-        ensures ended { result.0 ≡ ended.NotAsked permit }
+    pub fn not_asked(permit: Permit, unasked: Unasked) -> (ActionResult, Finished)
+        ensures ended { result.0 ≡ ended.NotAsked permit unasked }
         ensures finished { result.1 ≡ permit }
     {
         let (finished, waived) = waive_for(permit);
-        (ActionResult::NotAsked(waived), finished)
+        (ActionResult::NotAsked(waived, unasked), finished)
     }
 
     /// Ends an action as left, since the walk was stopped. Also returns the right to report it as done.
@@ -55,10 +56,10 @@ impl ActionResult {
     {
         match self {
             ActionResult::Skipped(waived, _)
-            | ActionResult::NotAsked(waived)
+            | ActionResult::NotAsked(waived, _)
             | ActionResult::Left(waived, _)
             | ActionResult::Faulted(_, waived) => waived.action(),
-            ActionResult::NotServed(unserved) => unserved.action(),
+            ActionResult::NotServed(unserved, _) => unserved.action(),
             ActionResult::Called(served) => served.call.action(),
         }
     }

@@ -20,12 +20,16 @@ mod recorded;
 mod requests;
 mod rooms;
 mod stop;
+mod timely;
+mod unasked;
 
 pub use action_result::{ActionResult, Faulted, Served, not_ended};
-pub use answered::{Answered, applies_to, prior_object};
+pub use answered::{ResultObjects, applies_to, prior_object};
 pub use asks::ask_provider;
 pub use excuse::{Excuse, Outcome};
 pub use not_good::NotGood;
 pub use prepared_call::PreparedCall;
 pub use recorded::ended_by;
-pub use stop::{Stop, Stopped, stops_are_shared};
+pub use stop::{Going, InTime, Stop, Stopped, stops_are_shared};
+pub use timely::call_in_time;
+pub use unasked::{Unasked, room_for_results};

@@ -17,7 +17,7 @@ use tf_walk_names::Results;
 /// What determines the requested object: the action of a plan, the names of its configuration, the schema of the
 /// action's type, and the objects of instances.
 #[derive(Drop)]
-pub(crate) struct Task<'a, 'n, R> {
+pub(crate) struct RequestBuilder<'a, 'n, R> {
     pub alloc: Global,
     pub plan: &'a Plan,
     pub names: &'a Declarations<'n>,
@@ -26,7 +26,7 @@ pub(crate) struct Task<'a, 'n, R> {
     pub results: &'a R,
 }
 
-impl<R: Results> Task<'_, '_, R> {
+impl<R: Results> RequestBuilder<'_, '_, R> {
     /// Evaluates the block of the action's instance to an object, or its fault. `kept` holds the values of names so
     /// far.
     pub(crate) fn made_object(

@@ -22,7 +22,7 @@ use tf_walk_names::{Results, add_resolved_names, named_for_instance};
 /// locals, are evaluated or copied.
 ///
 /// `kept` holds the values of names so far, by place. It is empty at first, and gains the values of the names in the
-/// block. So requests with the same answers that share it evaluate each local once, and collect each resource's
+/// block. So requests with the same answers that assert_sync it evaluate each local once, and collect each resource's
 /// objects once.
 ///
 /// # Errors

@@ -25,8 +25,9 @@ fn outcome(ended: &Option<ActionResult>) -> Outcome
 {
     match ended {
         None | Some(ActionResult::Skipped(_, _)) => Outcome::Skipped,
-        Some(ActionResult::NotAsked(_) | ActionResult::NotServed(_) | ActionResult::Left(_, _)) =>
-            Outcome::Excused,
+        Some(
+            ActionResult::NotAsked(_, _) | ActionResult::NotServed(_, _) | ActionResult::Left(_, _),
+        ) => Outcome::Excused,
         Some(ActionResult::Faulted(_, _)) => Outcome::ArgumentFault,
         Some(ActionResult::Called(served)) => Outcome::Judged(served.call.verdict()),
     }
@@ -51,8 +52,8 @@ fn excuse(place: usize, ended: &Option<ActionResult>) -> Option<Excuse>
     ensures { listed result ≡ excuses_at place (result_or_skipped ended.now) }
 {
     match ended {
-        Some(ActionResult::NotAsked(_)) => Some(Excuse::Before(place)),
-        Some(ActionResult::NotServed(_)) => Some(Excuse::During(place)),
+        Some(ActionResult::NotAsked(_, _)) => Some(Excuse::Before(place)),
+        Some(ActionResult::NotServed(_, _)) => Some(Excuse::During(place)),
         Some(ActionResult::Left(_, _)) => Some(Excuse::Left(place)),
         _ => None,
     }

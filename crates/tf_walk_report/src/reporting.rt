@@ -44,8 +44,13 @@ pub(crate) fn report_action<'p>(
     match ended {
         None => skip(room, events),
         Some(ActionResult::Skipped(_, _)) => skip(room, events),
-        Some(ActionResult::NotAsked(_)) => not_called(room, Code::NoMemory, "no memory", events),
-        Some(ActionResult::NotServed(_)) => not_called(room, Code::NoMemory, "no memory", events),
+        Some(ActionResult::NotAsked(_, _)) => not_called(room, Code::NoMemory, "no memory", events),
+        Some(ActionResult::NotServed(_, _)) => not_called(
+            room,
+            Code::NoMemory,
+            "no memory",
+            events,
+        ),
         Some(ActionResult::Left(_, _)) => not_called(room, Code::Left, "left", events),
         Some(ActionResult::Faulted(faulted, _)) => fault(room, faulted, events),
         Some(ActionResult::Called(served)) => {
@@ -181,7 +186,11 @@ fn report_call<'p>(
     ensures tells { listed (option_map diagnostic_of result)
         ≡ diagnostics_of_verdict (buffers_head room.entry).place room.entry.op (asked served.call.request) (answered served.call.reply) served.call.verdict }
 {
-    let Served { call, message } = served;
+    let Served {
+        call,
+        message,
+        in_time: _,
+    } = served;
     let verdict = call.verdict();
     let (request, reply) = call.into_report();
     let ActionBuffers {

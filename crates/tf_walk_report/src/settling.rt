@@ -15,7 +15,7 @@ use std::collections::BTreeMap;
 use tf_expand_keys::Module;
 use tf_plan_data::{Action, Plan};
 use tf_state_data::Object;
-use tf_walk_action::{ActionResult, Answered};
+use tf_walk_action::{ActionResult, ResultObjects};
 use tf_walk_outputs::{OutputBuffers, OutputResult, renew_outputs, settle_names};
 
 /// The buffers for outputs.
@@ -66,7 +66,7 @@ pub fn outputs_after(
     } = settling;
     let good = noted(good, plan.actions.as_slice(), results);
     let settled = settled_by(declared, &good, settled);
-    let answered = Answered {
+    let answered = ResultObjects {
         names: declared.parts.names,
         prior: &plan.prior,
         actions: plan.actions.as_slice(),

@@ -2,7 +2,7 @@
 
 ghost use Rattle.std.specs.List.{list_all};
 ghost use Rattle.std.specs.Prelude.{◌≡◌, ◌<◌, None, Some, is_some, length, map, option_map, slice_get, false, true, IfOk, IsSomeAnd, IsTrue, MatchOption};
-ghost use Rattle.tf_walk_action.specs.Words.{action_of, action_results_of, ActionResultView, AreServed, asked, asks_fully, call_of, comes_of, config_of, action_result_of, done_at, ended_action, fault_of, FitsTogether, is_good, IsRun, names_in, names_of, objects_seen, op_at, plan_of, predecessors_of, schema_in, seen_by, state_of};
+ghost use Rattle.tf_walk_action.specs.Words.{action_of, action_results_of, ActionResultView, AreServed, asked, asks_fully, call_of, comes_of, config_of, action_result_of, done_at, ended_action, fault_of, FitsTogether, is_good, IsByFlag, IsRun, names_in, names_of, objects_seen, op_at, plan_of, predecessors_of, schema_in, seen_by, state_of};
 ghost use Rattle.tf_walk_action.specs.AskedBy.{asked_by};
 ghost use Rattle.tf_walk_action.specs.Outcome.{Requests, AreRequests, objects_by};
 ghost use Rattle.tf_walk_single.specs.Ends.{Enters, IsEnd, IsSoFar, done_in, end_at};
@@ -10,12 +10,14 @@ ghost use Rattle.tf_walk_single.specs.ResolvedMemo.{IsTrueResolvedMemo};
 
 use crate::calls::{first_not_good, make_call};
 use crate::resolved_memo::ResolvedMemo;
-use std::alloc::{AllocError, Global};
+use std::alloc::Global;
 use tf_claim::{Finished, Permit};
 use tf_config_names::Declarations;
 use tf_plan_data::Plan;
 use tf_provider::{Journal, Provider, first_provider};
-use tf_walk_action::{ActionResult, Answered, Faulted, NotGood, PreparedCall, Stop, ask_provider};
+use tf_walk_action::{
+    ActionResult, Faulted, Going, NotGood, PreparedCall, ResultObjects, Stop, Unasked, ask_provider,
+};
 
 /// Ends a claimed action. Skips it if an action directly before it isn't good. Leaves it if the walk is to stop by
 /// then. Excuses it if memory for its request runs out. Reports what is wrong if its request has a fault. Otherwise
@@ -42,6 +44,7 @@ pub fn end_action(
     requires memo { IsTrueResolvedMemo (plan_of plan.now) (map (option_map action_result_of) results.now) memo.old }
     ensures finished { result.1 ≡ permit }
     ensures action { ended_action result.0 ≡ permit }
+    ensures flag { IsByFlag stop.now result.0 }
     ensures ended { (requests : Requests) → AreRequests (plan_of plan.now) requests → IsEnd (map meaning providers.now) requests (plan_of plan.now) permit
         (seen_by (done_in (map (option_map action_result_of) results.now)) (predecessors_of plan.now.order permit)) (action_result_of result.0) }
     ensures entered { Enters permit (op_at (map action_of plan.now.actions.items) permit) (action_result_of result.0) journal.old.entries journal.new.entries }
@@ -52,13 +55,14 @@ pub fn end_action(
     if let Some(bad) = not_good_before(plan, results, memo, action) {
         return ActionResult::skipped(permit, bad);
     }
-    if let Some(stopped) = stop.look() {
-        return ActionResult::left(permit, stopped);
-    }
+    let going = match stop.look() {
+        Ok(going) => going,
+        Err(stopped) => return ActionResult::left(permit, stopped),
+    };
     match ask(alloc, plan, names, providers, results, memo, action) {
-        Err(AllocError) => ActionResult::not_asked(permit),
+        Err(unasked) => ActionResult::not_asked(permit, unasked),
         Ok(Err(faulted)) => ActionResult::faulted(permit, faulted),
-        Ok(Ok(asking)) => serve(providers, journal, permit, asking),
+        Ok(Ok(asking)) => serve(providers, journal, permit, going, asking),
     }
 }
 
@@ -100,7 +104,7 @@ fn not_good_before(
 ///
 /// # Errors
 ///
-/// Fails with `AllocError` if memory runs out. What the memo keeps is true then too.
+/// Fails only if memory runs out. What the memo keeps is true then too.
 fn ask(
     alloc: Global,
     plan: &Plan,
@@ -109,7 +113,7 @@ fn ask(
     results: &[Option<ActionResult>],
     memo: &mut ResolvedMemo,
     action: usize,
-) -> Result<Result<PreparedCall, Faulted>, AllocError>
+) -> Result<Result<PreparedCall, Faulted>, Unasked>
     requires fits { FitsTogether plan.now }
     requires names { names_in names.now ≡ names_of (config_of plan.now.config) }
     requires served { AreServed (map meaning providers.now) (map action_of plan.now.actions.items) }
@@ -136,13 +140,13 @@ fn seen_before<'a>(
     names: &'a Declarations<'a>,
     results: &'a [Option<ActionResult>],
     action: usize,
-) -> Answered<'a>
+) -> ResultObjects<'a>
     requires names { names_in names.now ≡ names_of (config_of plan.now.config) }
     requires within { action < plan.now.order.nodes }
     ensures { objects_seen (names_in result.names.now) (state_of result.prior.now) (map action_of result.actions.now) (seen_by (done_at (action_results_of result.results.now)) result.seen.now)
         ≡ objects_by (plan_of plan.now) (seen_by (done_in (map (option_map action_result_of) results.now)) (predecessors_of plan.now.order action)) }
 {
-    Answered {
+    ResultObjects {
         names,
         prior: &plan.prior,
         actions: plan.actions.as_slice(),
@@ -151,11 +155,12 @@ fn seen_before<'a>(
     }
 }
 
-/// Calls the first provider that has the type of a request.
+/// Calls the first provider that has the type of a request, after a look at the walk's flag.
 fn serve(
     providers: &[Box<dyn Provider + Sync>],
     journal: &mut Journal,
     permit: Permit,
+    going: Going,
     asking: PreparedCall,
 ) -> (ActionResult, Finished)
     requires served { IsSomeAnd (schema_in (asked asking.request).type_name (map meaning providers.now)) (λ s. IsTrue (asks_fully (asked asking.request) s)) }
@@ -163,12 +168,13 @@ fn serve(
     requires fits { fault_of journal.old permit ≡ None }
     ensures finished { result.1 ≡ permit }
     ensures action { ended_action result.0 ≡ permit }
+    ensures flag { IsByFlag going result.0 }
     ensures ended { IsRun (call_of (map meaning providers.now) (asked asking.request)) (action_result_of result.0) }
     ensures entered { Enters permit (Some (asked asking.request).op) (action_result_of result.0) journal.old.entries journal.new.entries }
     ensures same_graph { journal.new.graph ≡ journal.old.graph }
 {
     match first_provider(providers, asking.request.type_name.as_str()) {
         None => unreachable!(),
-        Some(provider) => make_call(provider, journal, permit, asking),
+        Some(provider) => make_call(provider, journal, permit, going, asking),
     }
 }

@@ -1,5 +1,5 @@
 pub mod Calls
-pub mod Hoard
+pub mod HintStock
 pub mod Ideal
 pub mod Laws
 pub mod NoPlan
@@ -8,6 +8,6 @@ pub mod SeenResult
 pub mod Memo
 pub mod Seen
 pub mod Shared
-pub mod Post
+pub mod Position
 pub mod Sharing
 pub mod Walk

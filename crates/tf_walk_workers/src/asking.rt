@@ -11,10 +11,9 @@ ghost use Rattle.tf_walk_workers.specs.Shared.{IsOfWalk};
 use crate::memo::Memo;
 use crate::steps::WorkerContext;
 use crate::walk_brand::WalkBrand;
-use std::alloc::AllocError;
 use std::sync::Wait;
 use tf_provider::Provider;
-use tf_walk_action::{Faulted, PreparedCall, ask_provider};
+use tf_walk_action::{Faulted, PreparedCall, Unasked, ask_provider};
 
 impl<'a, N: WalkBrand, R: Wait> WorkerContext<'a, N, R> {
     /// Builds the request of an action whose predecessors are all good, or its fault, by their results. Each possible
@@ -28,7 +27,7 @@ impl<'a, N: WalkBrand, R: Wait> WorkerContext<'a, N, R> {
         providers: &[Box<dyn Provider + Sync>],
         action: usize,
         memo: &mut Option<Memo<'a, N>>,
-    ) -> Result<Result<PreparedCall, Faulted>, AllocError>
+    ) -> Result<Result<PreparedCall, Faulted>, Unasked>
         requires walk { IsOfWalk N.plan N.meanings self.now.plan.now (names_in self.now.names.now) self.now.cells.now (map meaning providers.now) }
         requires within { action < self.now.plan.now.order.nodes }
         requires good { All (λ n. IsGoodInEach N.meanings N.plan n) (predecessors_of self.now.plan.now.order action) }
@@ -51,7 +50,7 @@ impl<'a, N: WalkBrand, R: Wait> WorkerContext<'a, N, R> {
         providers: &[Box<dyn Provider + Sync>],
         action: usize,
         memo: &mut Memo<'a, N>,
-    ) -> Result<Result<PreparedCall, Faulted>, AllocError>
+    ) -> Result<Result<PreparedCall, Faulted>, Unasked>
         requires walk { IsOfWalk N.plan N.meanings self.now.plan.now (names_in self.now.names.now) self.now.cells.now (map meaning providers.now) }
         requires within { action < self.now.plan.now.order.nodes }
         requires memo { IsTrueMemo N.meanings N.plan self.now.plan.now (names_in self.now.names.now) memo.old }

@@ -14,7 +14,7 @@ use tf_config_names::Declarations;
 use tf_plan_data::Action;
 use tf_state_data::State;
 use tf_value_data::Value;
-use tf_walk_action::{applies_to, prior_object};
+use tf_walk_action::{Unasked, applies_to, prior_object, room_for_results};
 use tf_walk_names::Results;
 
 /// The results of some actions of a plan, all of which are good. They stay in their cells while this lives.
@@ -64,14 +64,14 @@ impl<N: WalkBrand> Cells<N> {
         prior: &'a State,
         actions: &'a [Action],
         before: &[usize],
-    ) -> Result<SeenResult<'a, N>, AllocError>
+    ) -> Result<SeenResult<'a, N>, Unasked>
         requires { All (λ n. n < self.now) before.now }
         ensures names { IfOk result (λ seen_result. IfGood seen_result (λ good. good.names.now ≡ names.now)) }
         ensures prior { IfOk result (λ seen_result. IfGood seen_result (λ good. good.prior.now ≡ prior.now)) }
         ensures actions { IfOk result (λ seen_result. IfGood seen_result (λ good. good.actions.now ≡ actions.now)) }
         ensures shows { IfOk result (λ seen_result. IfGood seen_result (Shows N.meanings N.plan before.now)) }
     {
-        let mut readings = Vec::with_capacity(alloc, before.len())?;
+        let mut readings = room_for_results(alloc, before.len())?;
         for action in before {
             let Some(reading) = self.read(*action) else {
                 return Ok(SeenResult::Waits);

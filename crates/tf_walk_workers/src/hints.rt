@@ -16,9 +16,9 @@ pub struct Hints<B: HintBound> {
 
 impl<B: HintBound> Model for Hints<B> {
     ghost use Rattle.crossbeam_deque.specs.Handles.{worker_capacity, worker_index};
-    ghost use Rattle.tf_walk_workers.specs.Hoard.{Hoard};
+    ghost use Rattle.tf_walk_workers.specs.HintStock.{HintStock};
 
-    ghost Value = { Hoard };
+    ghost Value = { HintStock };
 
     ghost view = { λ h. record { room = worker_capacity h.own; height = worker_index h.own } };
 }

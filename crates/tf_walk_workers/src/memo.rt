@@ -9,11 +9,10 @@ use crate::before::Before;
 use crate::seeing::{first_not_good, good_before};
 use crate::steps::WorkerContext;
 use crate::walk_brand::WalkBrand;
-use std::alloc::AllocError;
 use std::sync::Wait;
 use tf_expand_keys::Resolved;
 use tf_plan_data::Plan;
-use tf_walk_action::NotGood;
+use tf_walk_action::{NotGood, Unasked};
 
 /// What a worker read of the actions before one, and the values of names by that, as far as they are evaluated. It is
 /// valid for each action with the same actions before it, as most instances of a resource have. For all of them each
@@ -71,7 +70,7 @@ impl<'a, N: WalkBrand, R: Wait> WorkerContext<'a, N, R> {
         &self,
         memo: Option<Memo<'a, N>>,
         action: usize,
-    ) -> Result<Memo<'a, N>, AllocError>
+    ) -> Result<Memo<'a, N>, Unasked>
         requires cells { self.now.cells.now ≡ self.now.plan.now.order.nodes }
         requires within { action < self.now.plan.now.order.nodes }
         requires good { All (λ n. IsGoodInEach N.meanings N.plan n) (predecessors_of self.now.plan.now.order action) }
@@ -90,7 +89,7 @@ impl<'a, N: WalkBrand, R: Wait> WorkerContext<'a, N, R> {
 
     /// Builds a memo from the results read now, for an action whose predecessors are all good. The list is empty, and
     /// takes the values of names.
-    fn new_memo(&self, kept: Vec<Resolved>, action: usize) -> Result<Memo<'a, N>, AllocError>
+    fn new_memo(&self, kept: Vec<Resolved>, action: usize) -> Result<Memo<'a, N>, Unasked>
         requires cells { self.now.cells.now ≡ self.now.plan.now.order.nodes }
         requires within { action < self.now.plan.now.order.nodes }
         requires good { All (λ n. IsGoodInEach N.meanings N.plan n) (predecessors_of self.now.plan.now.order action) }

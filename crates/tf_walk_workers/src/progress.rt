@@ -13,7 +13,7 @@ pub struct WalkProgress {
     /// The first action that no worker has looked at since the workers last restarted the list.
     next: AtomicU64,
     /// The number of times that there may have been more to do than awake workers take. Workers wait on it.
-    news: AtomicU64,
+    epoch: AtomicU64,
     /// The number of workers that wait, or are about to.
     waiting: AtomicU64,
 }
@@ -24,7 +24,7 @@ impl WalkProgress {
         WalkProgress {
             ended: AtomicU64::new(0),
             next: AtomicU64::new(0),
-            news: AtomicU64::new(0),
+            epoch: AtomicU64::new(0),
             waiting: AtomicU64::new(0),
         }
     }
@@ -34,9 +34,9 @@ impl WalkProgress {
         self.ended.load(Ordering::SeqCst)
     }
 
-    /// Returns the number of times that there was news.
-    pub(crate) fn news(&self) -> u64 {
-        self.news.load(Ordering::SeqCst)
+    /// Returns the epoch: how often there was something new to find.
+    pub(crate) fn epoch(&self) -> u64 {
+        self.epoch.load(Ordering::SeqCst)
     }
 
     /// Returns the next of `all` actions to look at, which no other worker gets unless the list restarts; `None` if
@@ -56,7 +56,7 @@ impl WalkProgress {
     }
 
     /// Restarts the list, so that workers look at all actions again.
-    pub(crate) fn look_anew(&self) {
+    pub(crate) fn rescan(&self) {
         self.next.store(0, Ordering::SeqCst);
     }
 
@@ -65,30 +65,30 @@ impl WalkProgress {
     pub(crate) fn tell_end(&self, free: u64) {
         self.ended.fetch_add(1, Ordering::SeqCst);
         if free > 1 {
-            self.tell_news(free - 1);
+            self.bump_epoch(free - 1);
         }
     }
 
-    /// Counts news for the given number of workers, and wakes that many of those that wait.
-    pub(crate) fn tell_news(&self, workers: u64) {
-        self.news.fetch_add(1, Ordering::SeqCst);
+    /// Advances the epoch, and wakes up to the given number of the workers that wait.
+    pub(crate) fn bump_epoch(&self, workers: u64) {
+        self.epoch.fetch_add(1, Ordering::SeqCst);
         let waiting = self.waiting.load(Ordering::SeqCst);
         if waiting == 0 {
             return;
         }
         if waiting <= workers {
-            self.news.wake_all();
+            self.epoch.wake_all();
             return;
         }
         for _ in 0..workers {
-            self.news.wake_one();
+            self.epoch.wake_one();
         }
     }
 
-    /// Waits to be woken, unless the count of news differs from `news`. It may return without a reason.
-    pub(crate) fn wait_for_news<R: Wait>(&self, rt: &R, news: u64) {
+    /// Waits to be woken, unless the epoch isn't `epoch` any more. It may return without a reason.
+    pub(crate) fn wait_for_change<R: Wait>(&self, rt: &R, epoch: u64) {
         self.waiting.fetch_add(1, Ordering::SeqCst);
-        self.news.park(rt, (news % 0x1_0000_0000) as u32);
+        self.epoch.park(rt, (epoch % 0x1_0000_0000) as u32);
         self.waiting.fetch_sub(1, Ordering::SeqCst);
     }
 }

@@ -74,10 +74,18 @@ impl<N: WalkBrand> ResultCells<N> {
 /// Discards the result of an action.
 fn forget(ended: ActionResult) {
     match ended {
-        ActionResult::Called(Served { call, message: _ }) => {
+        ActionResult::Called(
+            Served {
+                call,
+                message: _,
+                in_time: _,
+            },
+        ) => {
             let (_request, _reply) = call.into_report();
         }
         ActionResult::Faulted(_, _) | ActionResult::Left(_, _) => {}
-        ActionResult::Skipped(_, _) | ActionResult::NotAsked(_) | ActionResult::NotServed(_) => {}
+        ActionResult::Skipped(_, _)
+        | ActionResult::NotAsked(_, _)
+        | ActionResult::NotServed(_, _) => {}
     }
 }

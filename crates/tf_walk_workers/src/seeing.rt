@@ -8,12 +8,12 @@ ghost use Rattle.tf_walk_workers.specs.Seen.{AreSeen};
 use crate::before::{Before, SeenResult};
 use crate::cells::Cells;
 use crate::walk_brand::WalkBrand;
-use std::alloc::{AllocError, Global};
+use std::alloc::Global;
 use std::sync::Wait;
 use std::thread;
 use tf_config_names::Declarations;
 use tf_plan_data::Plan;
-use tf_walk_action::NotGood;
+use tf_walk_action::{NotGood, Unasked};
 
 /// Returns the evidence that one of some actions isn't good, for the first that isn't; `None` if all are good, and
 /// then they are so in every ideal. Waits until the results up to that action can be read. Takes no memory.
@@ -61,7 +61,7 @@ pub(crate) fn good_before<'a, N: WalkBrand, R: Wait>(
     names: &'a Declarations<'a>,
     cells: &'a Cells<N>,
     action: usize,
-) -> Result<Before<'a, N>, AllocError>
+) -> Result<Before<'a, N>, Unasked>
     requires cells { cells.now ≡ plan.now.order.nodes }
     requires within { action < plan.now.order.nodes }
     requires good { All (λ n. IsGoodInEach N.meanings N.plan n) (predecessors_of plan.now.order action) }
@@ -73,7 +73,7 @@ pub(crate) fn good_before<'a, N: WalkBrand, R: Wait>(
         match cells.look(alloc, names, &plan.prior, actions, nodes) {
             Ok(SeenResult::Good(before)) => return Ok(before),
             Ok(SeenResult::Waits | SeenResult::Bad) => thread::yield_now(),
-            Err(AllocError) => return Err(AllocError),
+            Err(unasked) => return Err(unasked),
         }
     }
     unreachable!()

@@ -9,10 +9,11 @@ use crate::hinting::Hinting;
 use crate::hints::HintStealer;
 use crate::log::Log;
 use crate::progress::WalkProgress;
+use crate::publishing::WalkClaims;
 use crate::walk_brand::WalkBrand;
 use std::alloc::Global;
 use std::sync::Mutex;
-use tf_claim::{Claims, Seat};
+use tf_claim::Seat;
 use tf_config_names::Declarations;
 use tf_plan_data::Plan;
 use tf_tally::{Part, Tally};
@@ -48,7 +49,7 @@ pub struct SharedWalk<'a, N: WalkBrand> {
     /// The flag that stops the walk.
     pub stop: &'a Stop,
     /// The claims on the plan's actions.
-    pub claims: &'a Claims,
+    pub claims: &'a WalkClaims<'a>,
     /// The tally of the walk's calls.
     pub tally: &'a Tally<CallRecord>,
     /// The journal, under its lock.

@@ -6,13 +6,13 @@ ghost use Rattle.tf_walk_workers.specs.Walk.{IsOneWalk};
 ghost use denote.Param.Send.{IsSync, IsSend};
 
 use crate::call_record::CallRecord;
+use crate::publishing::WalkClaims;
 use crate::shared::{SharedWalk, WalkInput, WorkerEnd, WorkerState};
 use crate::walk_brand::WalkBrand;
 use crate::worker::work;
 use std::sync::Wait;
 use std::thread;
 use std::thread::Threads;
-use tf_claim::Claims;
 use tf_provider::Provider;
 use tf_tally::Tally;
 
@@ -26,7 +26,7 @@ pub fn share_out<N: WalkBrand + Send + Sync, B: WalkInput<N> + Sync, R: Threads 
     worker_state: WorkerState<N>,
     others: Vec<WorkerState<N>>,
 ) -> WorkerEnd
-    requires walk { IsOneWalk N.plan N.meanings (B.planned walk_input.now) (B.named walk_input.now) (B.count walk_input.now) walk.now.claims.now.graph walk.now.tally.now N.table (map meaning providers.now) }
+    requires walk { IsOneWalk N.plan N.meanings (B.planned walk_input.now) (B.named walk_input.now) (B.count walk_input.now) walk.now.claims.now.graph walk.now.tally.now N.table walk.now.stop.now N.flag (map meaning providers.now) }
     requires worker_state { IsWorkerState walk.now.claims.now.table walk.now.tally.now worker_state }
     requires others { All (IsWorkerState walk.now.claims.now.table walk.now.tally.now) others.items }
     ensures { IsWorkerEnd walk.now.claims.now.table walk.now.tally.now (vec_len others + 1) result }
@@ -36,7 +36,7 @@ pub fn share_out<N: WalkBrand + Send + Sync, B: WalkInput<N> + Sync, R: Threads 
         walk.claims,
         walk.tally,
         &|worker_state: WorkerState<N>| -> WorkerEnd
-            requires walk { IsOneWalk N.plan N.meanings (B.planned walk_input.now) (B.named walk_input.now) (B.count walk_input.now) walk.now.claims.now.graph walk.now.tally.now N.table (map meaning providers.now) }
+            requires walk { IsOneWalk N.plan N.meanings (B.planned walk_input.now) (B.named walk_input.now) (B.count walk_input.now) walk.now.claims.now.graph walk.now.tally.now N.table walk.now.stop.now N.flag (map meaning providers.now) }
             requires worker_state { IsWorkerState walk.now.claims.now.table walk.now.tally.now worker_state }
             ensures { IsWorkerEnd walk.entry.now.claims.now.table walk.entry.now.tally.now 1 result }
         { work(rt, walk, walk_input, providers, worker_state) },
@@ -50,7 +50,7 @@ pub fn share_out<N: WalkBrand + Send + Sync, B: WalkInput<N> + Sync, R: Threads 
 #[cycle(threads)]
 fn work_at_all<D: Send + Drop, F: Fn(D) -> WorkerEnd + Sync, R: Threads + Sync>(
     rt: &R,
-    claims: &Claims,
+    claims: &WalkClaims<'_>,
     tally: &Tally<CallRecord>,
     work: &F,
     worker_state: D,
@@ -84,7 +84,7 @@ fn work_at_all<D: Send + Drop, F: Fn(D) -> WorkerEnd + Sync, R: Threads + Sync>(
 
 /// Joins what some workers return with what others do.
 fn joined(
-    claims: &Claims,
+    claims: &WalkClaims<'_>,
     tally: &Tally<CallRecord>,
     own: WorkerEnd,
     others: WorkerEnd,
@@ -105,7 +105,7 @@ fn joined(
 
 /// Runs a worker with its state on this thread.
 fn work_at<D, F: Fn(D) -> WorkerEnd>(
-    claims: &Claims,
+    claims: &WalkClaims<'_>,
     tally: &Tally<CallRecord>,
     work: &F,
     worker_state: D,

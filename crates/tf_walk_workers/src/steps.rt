@@ -1,7 +1,7 @@
 //! A worker's steps to end one action.
 
 ghost use Rattle.std.specs.Prelude.{◌≡◌, ◌<◌, [], IfSome, map};
-ghost use Rattle.tf_walk_action.specs.Words.{action_result_of, ended_action, HasCause, names_in};
+ghost use Rattle.tf_walk_action.specs.Words.{action_result_of, ended_action, HasCause, IsByFlag, names_in};
 ghost use Rattle.tf_walk_workers.specs.Calls.{HasParts, reported_by};
 ghost use Rattle.tf_walk_workers.specs.Ideal.{IsEndOf, IsTrueTo};
 ghost use Rattle.tf_walk_workers.specs.Memo.{IsTrueMemo};
@@ -9,14 +9,14 @@ ghost use Rattle.tf_walk_workers.specs.Shared.{IsOfWalk};
 
 use crate::call_record::CallRecord;
 use crate::calls::{ActionEnd, serve, with_part};
-use crate::cells::{Cells, Unpublished};
+use crate::cells::Cells;
 use crate::log::Log;
 use crate::memo::Memo;
+use crate::publishing::{Published, publish};
 use crate::walk_brand::WalkBrand;
-use std::alloc::{AllocError, Global};
+use std::alloc::Global;
 use std::sync::{Mutex, Wait};
-use std::thread;
-use tf_claim::{Finished, Permit};
+use tf_claim::Permit;
 use tf_config_names::Declarations;
 use tf_plan_data::Plan;
 use tf_provider::Provider;
@@ -46,36 +46,31 @@ pub struct WorkerContext<'a, N: WalkBrand, R> {
 }
 
 impl<'a, N: WalkBrand, R: Wait> WorkerContext<'a, N, R> {
-    /// Ends a claimed action, and publishes its result. The action is skipped if one directly before it isn't good,
-    /// left if the walk is stopped, excused if memory for its request runs out, and faulted if its request has a
-    /// fault. Otherwise its provider is called, without the lock, and the call is recorded under the lock. All
-    /// actions directly before it have ended, and no result is published for it; until both hold, this waits. `memo`
-    /// is what the worker remembers for its next action, `None` at first. The given part goes into the action's cell, to
-    /// report the action's call, and the one that was there is returned.
+    /// Ends a claimed action, publishes its result, and returns the right to report it as done. The action is skipped if
+    /// one directly before it isn't good, left if the walk is stopped, excused if memory for its request runs out, and
+    /// faulted if its request has a fault. Otherwise its provider is called, without the lock, and the call is recorded
+    /// under the lock. All actions directly before it have ended, and no result is published for it; until both hold,
+    /// this waits. `memo` is what the worker remembers for its next action, `None` at first. The given part goes into the
+    /// action's cell, to report the action's call, and the one that was there is returned.
     pub fn end_action(
         &self,
         providers: &[Box<dyn Provider + Sync>],
         permit: Permit,
         memo: &mut Option<Memo<'a, N>>,
         part: Part<CallRecord>,
-    ) -> (Finished, Part<CallRecord>)
+    ) -> (Published, Part<CallRecord>)
         requires walk { IsOfWalk N.plan N.meanings self.now.plan.now (names_in self.now.names.now) self.now.cells.now (map meaning providers.now) }
         requires tally { self.now.tally.now ≡ N.table }
+        requires flag { self.now.stop.now ≡ N.flag }
         requires within { permit < self.now.plan.now.order.nodes }
         requires part { HasParts N.table 1 [] [] part }
         requires memo { IfSome memo.old (IsTrueMemo N.meanings N.plan self.now.plan.now (names_in self.now.names.now)) }
-        ensures finished { result.0 ≡ permit }
+        ensures published { result.0 ≡ permit }
         ensures part { HasParts N.table 1 [] [] result.1 }
         ensures memo { IfSome memo.new (IsTrueMemo N.meanings N.plan self.now.plan.now (names_in self.now.names.now)) }
     {
-        let action = permit.action();
-        let ActionEnd {
-            ended,
-            finished,
-            part,
-        } = self.come_to_end(providers, permit, memo, part);
-        let part = publish(self.rt, self.cells, action, ended, part);
-        (finished, part)
+        let end = self.come_to_end(providers, permit, memo, part);
+        publish(self.rt, self.cells, end)
     }
 
     /// Returns the result of a claimed action, and a part that reports its call, in place of the given one. Waits until the
@@ -90,12 +85,14 @@ impl<'a, N: WalkBrand, R: Wait> WorkerContext<'a, N, R> {
     ) -> ActionEnd
         requires walk { IsOfWalk N.plan N.meanings self.now.plan.now (names_in self.now.names.now) self.now.cells.now (map meaning providers.now) }
         requires tally { self.now.tally.now ≡ N.table }
+        requires flag { self.now.stop.now ≡ N.flag }
         requires within { permit < self.now.plan.now.order.nodes }
         requires part { HasParts N.table 1 [] [] part }
         requires memo { IfSome memo.old (IsTrueMemo N.meanings N.plan self.now.plan.now (names_in self.now.names.now)) }
         ensures finished { result.finished ≡ permit }
         ensures action { ended_action result.ended ≡ permit }
         ensures cause { HasCause N.plan.order result.ended }
+        ensures flag { IsByFlag N.flag result.ended }
         ensures ended { IsTrueTo N.meanings N.plan permit (action_result_of result.ended) }
         ensures part { HasParts N.table 1 [] (reported_by result.ended) result.part }
         ensures memo { IfSome memo.new (IsTrueMemo N.meanings N.plan self.now.plan.now (names_in self.now.names.now)) }
@@ -104,11 +101,12 @@ impl<'a, N: WalkBrand, R: Wait> WorkerContext<'a, N, R> {
         if let Some(bad) = self.not_good_before(memo, action) {
             return with_part(ActionResult::skipped(permit, bad), part);
         }
-        if let Some(stopped) = self.stop.look() {
-            return with_part(ActionResult::left(permit, stopped), part);
-        }
+        let going = match self.stop.look() {
+            Ok(going) => going,
+            Err(stopped) => return with_part(ActionResult::left(permit, stopped), part),
+        };
         match self.ask(providers, action, memo) {
-            Err(AllocError) => with_part(ActionResult::not_asked(permit), part),
+            Err(unasked) => with_part(ActionResult::not_asked(permit, unasked), part),
             Ok(Err(faulted)) => with_part(ActionResult::faulted(permit, faulted), part),
             Ok(Ok(asking)) => serve(
                 self.rt,
@@ -116,35 +114,10 @@ impl<'a, N: WalkBrand, R: Wait> WorkerContext<'a, N, R> {
                 self.journal,
                 self.tally,
                 permit,
+                going,
                 asking,
                 part,
             ),
         }
     }
-}
-
-/// Publishes the result of an action with the part that reports its call, and returns the part that its cell had. Tries again
-/// as long as a result is already published for it.
-fn publish<N: WalkBrand, R: Wait>(
-    rt: &R,
-    cells: &Cells<N>,
-    action: usize,
-    ended: ActionResult,
-    part: Part<CallRecord>,
-) -> Part<CallRecord>
-    requires action { action < cells.now }
-    requires own { IsEndOf N.meanings N.plan action ended }
-    requires part { HasParts N.table 1 [] (reported_by ended) part }
-    ensures { HasParts N.table 1 [] [] result }
-{
-    let mut left = Unpublished { ended, part };
-    for _ in rt.forever() {
-        let Unpublished { ended, part } = left;
-        match cells.publish(action, ended, part) {
-            Ok(part) => return part,
-            Err(back) => left = back,
-        }
-        thread::yield_now();
-    }
-    unreachable!()
 }

@@ -1,7 +1,7 @@
 //! One worker of a walk.
 
 ghost use Rattle.std.specs.Prelude.{◌≡◌, ◌<◌, List, map};
-ghost use Rattle.tf_walk_workers.specs.Post.{IsPost};
+ghost use Rattle.tf_walk_workers.specs.Position.{IsPosition};
 ghost use Rattle.tf_walk_workers.specs.Sharing.{IsWorkerEnd, IsWorkerState};
 ghost use Rattle.tf_walk_workers.specs.Walk.{IsOneWalk};
 
@@ -18,7 +18,7 @@ use tf_claim::Seat;
 use tf_provider::Provider;
 use tf_tally::Part;
 
-/// Ends actions, one after another, until all have ended. Waits for news if there is nothing to do.
+/// Ends actions, one after another, until all have ended. Waits for the epoch to change if there is nothing to do.
 pub(crate) fn work<N: WalkBrand, B: WalkInput<N>, R: Wait>(
     rt: &R,
     walk: &SharedWalk<'_, N>,
@@ -26,7 +26,7 @@ pub(crate) fn work<N: WalkBrand, B: WalkInput<N>, R: Wait>(
     providers: &[Box<dyn Provider + Sync>],
     worker_state: WorkerState<N>,
 ) -> WorkerEnd
-    requires walk { IsOneWalk N.plan N.meanings (B.planned walk_input.now) (B.named walk_input.now) (B.count walk_input.now) walk.now.claims.now.graph walk.now.tally.now N.table (map meaning providers.now) }
+    requires walk { IsOneWalk N.plan N.meanings (B.planned walk_input.now) (B.named walk_input.now) (B.count walk_input.now) walk.now.claims.now.graph walk.now.tally.now N.table walk.now.stop.now N.flag (map meaning providers.now) }
     requires worker_state { IsWorkerState walk.now.claims.now.table walk.now.tally.now worker_state }
     ensures { IsWorkerEnd walk.now.claims.now.table walk.now.tally.now 1 result }
 {
@@ -41,7 +41,7 @@ pub(crate) fn work<N: WalkBrand, B: WalkInput<N>, R: Wait>(
         hinting,
         place,
     } = worker_state;
-    let mut post = Post {
+    let mut position = Position {
         seat,
         part: Some(part),
         hinting,
@@ -53,25 +53,25 @@ pub(crate) fn work<N: WalkBrand, B: WalkInput<N>, R: Wait>(
     // claims it if no action is before it. For any other action, the worker that released the last edge into it has a
     // hint; if the hint is lost, all actions are given to workers again. That worker looks at its own hints, and at
     // the list, before it waits. So others are woken only for speed, except at the end, when all are. No worker waits
-    // that hasn't looked since the last news: it reads the news before it looks, and news is counted after there is
-    // something to find. `tools/model` checks all interleavings of this loop, for small orders.
+    // that hasn't looked since the epoch last changed: it reads the epoch before it looks, and the epoch changes after
+    // there is something to find. `tools/model` checks all interleavings of this loop, for small orders.
     for _ in rt.forever() {
-        let news = walk.progress.news();
+        let epoch = walk.progress.epoch();
         if walk.progress.ended() >= all {
             break;
         }
-        if !worker.go_on(providers, &mut post) {
-            walk.progress.wait_for_news(rt, news);
+        if !worker.take_step(providers, &mut position) {
+            walk.progress.wait_for_change(rt, epoch);
         }
     }
-    walk.progress.tell_news(walk.stealers.len() as u64);
-    let Post {
+    walk.progress.bump_epoch(walk.stealers.len() as u64);
+    let Position {
         seat,
         part,
         hinting: _,
         place: _,
         memo: _,
-    } = post;
+    } = position;
     match part {
         Some(part) => WorkerEnd { seat, part },
         None => unreachable!(),
@@ -80,7 +80,7 @@ pub(crate) fn work<N: WalkBrand, B: WalkInput<N>, R: Wait>(
 
 /// What each worker has for itself: its state, and its memo of the last request. While it ends an action it has no part.
 #[derive(Drop)]
-struct Post<'a, N: WalkBrand> {
+struct Position<'a, N: WalkBrand> {
     seat: Seat,
     part: Option<Part<CallRecord>>,
     hinting: Hinting<N>,
@@ -88,7 +88,7 @@ struct Post<'a, N: WalkBrand> {
     memo: Option<Memo<'a, N>>,
 }
 
-/// What a worker uses, besides the providers and its `Post`.
+/// What a worker uses, besides the providers and its `Position`.
 #[derive(Drop)]
 struct Worker<'a, 'w, N: WalkBrand, B, R> {
     rt: &'a R,
@@ -99,27 +99,35 @@ struct Worker<'a, 'w, N: WalkBrand, B, R> {
 impl<'a, N: WalkBrand, B: WalkInput<N>, R: Wait> Worker<'a, '_, N, B, R> {
     /// Ends an action that may be claimed, and returns whether there was one. Takes a hint of its own, or else the
     /// first action in the list that no worker has looked at, or else a hint of another worker.
-    fn go_on(&self, providers: &[Box<dyn Provider + Sync>], post: &mut Post<'a, N>) -> bool
-        requires walk { IsOneWalk N.plan N.meanings (B.planned self.now.walk_input.now) (B.named self.now.walk_input.now) (B.count self.now.walk_input.now) self.now.walk.now.claims.now.graph self.now.walk.now.tally.now N.table (map meaning providers.now) }
-        requires post { IsPost N.meanings N.plan N.table (B.planned self.now.walk_input.now) (B.named self.now.walk_input.now) self.now.walk.now.claims.now post.old }
-        ensures { IsPost N.meanings N.plan N.table (B.planned self.now.walk_input.now) (B.named self.now.walk_input.now) self.now.walk.now.claims.now post.new }
+    fn take_step(
+        &self,
+        providers: &[Box<dyn Provider + Sync>],
+        position: &mut Position<'a, N>,
+    ) -> bool
+        requires walk { IsOneWalk N.plan N.meanings (B.planned self.now.walk_input.now) (B.named self.now.walk_input.now) (B.count self.now.walk_input.now) self.now.walk.now.claims.now.graph self.now.walk.now.tally.now N.table self.now.walk.now.stop.now N.flag (map meaning providers.now) }
+        requires position { IsPosition N.meanings N.plan N.table (B.planned self.now.walk_input.now) (B.named self.now.walk_input.now) self.now.walk.now.claims.now position.old }
+        ensures { IsPosition N.meanings N.plan N.table (B.planned self.now.walk_input.now) (B.named self.now.walk_input.now) self.now.walk.now.claims.now position.new }
     {
-        self.take_own_hint(providers, post)
-            || self.look_on(providers, post)
-            || self.steal_hint(providers, post)
+        self.take_own_hint(providers, position)
+            || self.scan(providers, position)
+            || self.steal_hint(providers, position)
     }
 
     /// Ends an action by one of the worker's own hints. Drops hints at actions that can't be claimed.
-    fn take_own_hint(&self, providers: &[Box<dyn Provider + Sync>], post: &mut Post<'a, N>) -> bool
-        requires walk { IsOneWalk N.plan N.meanings (B.planned self.now.walk_input.now) (B.named self.now.walk_input.now) (B.count self.now.walk_input.now) self.now.walk.now.claims.now.graph self.now.walk.now.tally.now N.table (map meaning providers.now) }
-        requires post { IsPost N.meanings N.plan N.table (B.planned self.now.walk_input.now) (B.named self.now.walk_input.now) self.now.walk.now.claims.now post.old }
-        ensures { IsPost N.meanings N.plan N.table (B.planned self.now.walk_input.now) (B.named self.now.walk_input.now) self.now.walk.now.claims.now post.new }
+    fn take_own_hint(
+        &self,
+        providers: &[Box<dyn Provider + Sync>],
+        position: &mut Position<'a, N>,
+    ) -> bool
+        requires walk { IsOneWalk N.plan N.meanings (B.planned self.now.walk_input.now) (B.named self.now.walk_input.now) (B.count self.now.walk_input.now) self.now.walk.now.claims.now.graph self.now.walk.now.tally.now N.table self.now.walk.now.stop.now N.flag (map meaning providers.now) }
+        requires position { IsPosition N.meanings N.plan N.table (B.planned self.now.walk_input.now) (B.named self.now.walk_input.now) self.now.walk.now.claims.now position.old }
+        ensures { IsPosition N.meanings N.plan N.table (B.planned self.now.walk_input.now) (B.named self.now.walk_input.now) self.now.walk.now.claims.now position.new }
     {
         for _ in self.rt.forever() {
-            let Some(hint) = post.hinting.hints.pop() else {
+            let Some(hint) = position.hinting.hints.pop() else {
                 return false;
             };
-            if self.end_if_free(providers, post, hint) {
+            if self.end_if_free(providers, position, hint) {
                 return true;
             }
         }
@@ -127,29 +135,34 @@ impl<'a, N: WalkBrand, B: WalkInput<N>, R: Wait> Worker<'a, '_, N, B, R> {
     }
 
     /// Ends an action by a stolen hint, beginning with the next worker.
-    fn steal_hint(&self, providers: &[Box<dyn Provider + Sync>], post: &mut Post<'a, N>) -> bool
-        requires walk { IsOneWalk N.plan N.meanings (B.planned self.now.walk_input.now) (B.named self.now.walk_input.now) (B.count self.now.walk_input.now) self.now.walk.now.claims.now.graph self.now.walk.now.tally.now N.table (map meaning providers.now) }
-        requires post { IsPost N.meanings N.plan N.table (B.planned self.now.walk_input.now) (B.named self.now.walk_input.now) self.now.walk.now.claims.now post.old }
-        ensures { IsPost N.meanings N.plan N.table (B.planned self.now.walk_input.now) (B.named self.now.walk_input.now) self.now.walk.now.claims.now post.new }
+    fn steal_hint(
+        &self,
+        providers: &[Box<dyn Provider + Sync>],
+        position: &mut Position<'a, N>,
+    ) -> bool
+        requires walk { IsOneWalk N.plan N.meanings (B.planned self.now.walk_input.now) (B.named self.now.walk_input.now) (B.count self.now.walk_input.now) self.now.walk.now.claims.now.graph self.now.walk.now.tally.now N.table self.now.walk.now.stop.now N.flag (map meaning providers.now) }
+        requires position { IsPosition N.meanings N.plan N.table (B.planned self.now.walk_input.now) (B.named self.now.walk_input.now) self.now.walk.now.claims.now position.old }
+        ensures { IsPosition N.meanings N.plan N.table (B.planned self.now.walk_input.now) (B.named self.now.walk_input.now) self.now.walk.now.claims.now position.new }
     {
-        let own = post.place.min(self.walk.stealers.len());
+        let own = position.place.min(self.walk.stealers.len());
         let (before, behind) = self.walk.stealers.split_at(own);
-        self.steal_from_any(providers, post, behind) || self.steal_from_any(providers, post, before)
+        self.steal_from_any(providers, position, behind)
+            || self.steal_from_any(providers, position, before)
     }
 
     /// Ends an action by a hint stolen from the first of some workers that has one.
     fn steal_from_any(
         &self,
         providers: &[Box<dyn Provider + Sync>],
-        post: &mut Post<'a, N>,
+        position: &mut Position<'a, N>,
         stealers: &[HintStealer<PlanBound<N>>],
     ) -> bool
-        requires walk { IsOneWalk N.plan N.meanings (B.planned self.now.walk_input.now) (B.named self.now.walk_input.now) (B.count self.now.walk_input.now) self.now.walk.now.claims.now.graph self.now.walk.now.tally.now N.table (map meaning providers.now) }
-        requires post { IsPost N.meanings N.plan N.table (B.planned self.now.walk_input.now) (B.named self.now.walk_input.now) self.now.walk.now.claims.now post.old }
-        ensures { IsPost N.meanings N.plan N.table (B.planned self.now.walk_input.now) (B.named self.now.walk_input.now) self.now.walk.now.claims.now post.new }
+        requires walk { IsOneWalk N.plan N.meanings (B.planned self.now.walk_input.now) (B.named self.now.walk_input.now) (B.count self.now.walk_input.now) self.now.walk.now.claims.now.graph self.now.walk.now.tally.now N.table self.now.walk.now.stop.now N.flag (map meaning providers.now) }
+        requires position { IsPosition N.meanings N.plan N.table (B.planned self.now.walk_input.now) (B.named self.now.walk_input.now) self.now.walk.now.claims.now position.old }
+        ensures { IsPosition N.meanings N.plan N.table (B.planned self.now.walk_input.now) (B.named self.now.walk_input.now) self.now.walk.now.claims.now position.new }
     {
         for stealer in stealers {
-            if self.steal_from(providers, post, stealer) {
+            if self.steal_from(providers, position, stealer) {
                 return true;
             }
         }
@@ -161,18 +174,18 @@ impl<'a, N: WalkBrand, B: WalkInput<N>, R: Wait> Worker<'a, '_, N, B, R> {
     fn steal_from(
         &self,
         providers: &[Box<dyn Provider + Sync>],
-        post: &mut Post<'a, N>,
+        position: &mut Position<'a, N>,
         stealer: &HintStealer<PlanBound<N>>,
     ) -> bool
-        requires walk { IsOneWalk N.plan N.meanings (B.planned self.now.walk_input.now) (B.named self.now.walk_input.now) (B.count self.now.walk_input.now) self.now.walk.now.claims.now.graph self.now.walk.now.tally.now N.table (map meaning providers.now) }
-        requires post { IsPost N.meanings N.plan N.table (B.planned self.now.walk_input.now) (B.named self.now.walk_input.now) self.now.walk.now.claims.now post.old }
-        ensures { IsPost N.meanings N.plan N.table (B.planned self.now.walk_input.now) (B.named self.now.walk_input.now) self.now.walk.now.claims.now post.new }
+        requires walk { IsOneWalk N.plan N.meanings (B.planned self.now.walk_input.now) (B.named self.now.walk_input.now) (B.count self.now.walk_input.now) self.now.walk.now.claims.now.graph self.now.walk.now.tally.now N.table self.now.walk.now.stop.now N.flag (map meaning providers.now) }
+        requires position { IsPosition N.meanings N.plan N.table (B.planned self.now.walk_input.now) (B.named self.now.walk_input.now) self.now.walk.now.claims.now position.old }
+        ensures { IsPosition N.meanings N.plan N.table (B.planned self.now.walk_input.now) (B.named self.now.walk_input.now) self.now.walk.now.claims.now position.new }
     {
         for _ in self.rt.forever() {
             let Some(hint) = stealer.steal(self.rt) else {
                 return false;
             };
-            if self.end_if_free(providers, post, hint) {
+            if self.end_if_free(providers, position, hint) {
                 return true;
             }
         }
@@ -182,17 +195,17 @@ impl<'a, N: WalkBrand, B: WalkInput<N>, R: Wait> Worker<'a, '_, N, B, R> {
     /// Ends an action that can be claimed, of those that no worker has looked at. No action is looked at twice,
     /// unless a hint is lost. So a worker passes over an action that can't be claimed yet: the worker that ends the
     /// last action before it gives a hint at it.
-    fn look_on(&self, providers: &[Box<dyn Provider + Sync>], post: &mut Post<'a, N>) -> bool
-        requires walk { IsOneWalk N.plan N.meanings (B.planned self.now.walk_input.now) (B.named self.now.walk_input.now) (B.count self.now.walk_input.now) self.now.walk.now.claims.now.graph self.now.walk.now.tally.now N.table (map meaning providers.now) }
-        requires post { IsPost N.meanings N.plan N.table (B.planned self.now.walk_input.now) (B.named self.now.walk_input.now) self.now.walk.now.claims.now post.old }
-        ensures { IsPost N.meanings N.plan N.table (B.planned self.now.walk_input.now) (B.named self.now.walk_input.now) self.now.walk.now.claims.now post.new }
+    fn scan(&self, providers: &[Box<dyn Provider + Sync>], position: &mut Position<'a, N>) -> bool
+        requires walk { IsOneWalk N.plan N.meanings (B.planned self.now.walk_input.now) (B.named self.now.walk_input.now) (B.count self.now.walk_input.now) self.now.walk.now.claims.now.graph self.now.walk.now.tally.now N.table self.now.walk.now.stop.now N.flag (map meaning providers.now) }
+        requires position { IsPosition N.meanings N.plan N.table (B.planned self.now.walk_input.now) (B.named self.now.walk_input.now) self.now.walk.now.claims.now position.old }
+        ensures { IsPosition N.meanings N.plan N.table (B.planned self.now.walk_input.now) (B.named self.now.walk_input.now) self.now.walk.now.claims.now position.new }
     {
         let all = self.walk.claims.graph().nodes();
         for _ in self.rt.forever() {
             let Some(action) = self.walk.progress.next(all) else {
                 return false;
             };
-            if self.end_if_free(providers, post, action) {
+            if self.end_if_free(providers, position, action) {
                 return true;
             }
         }
@@ -205,19 +218,19 @@ impl<'a, N: WalkBrand, B: WalkInput<N>, R: Wait> Worker<'a, '_, N, B, R> {
     fn end_if_free(
         &self,
         providers: &[Box<dyn Provider + Sync>],
-        post: &mut Post<'a, N>,
+        position: &mut Position<'a, N>,
         action: usize,
     ) -> bool
-        requires walk { IsOneWalk N.plan N.meanings (B.planned self.now.walk_input.now) (B.named self.now.walk_input.now) (B.count self.now.walk_input.now) self.now.walk.now.claims.now.graph self.now.walk.now.tally.now N.table (map meaning providers.now) }
-        requires post { IsPost N.meanings N.plan N.table (B.planned self.now.walk_input.now) (B.named self.now.walk_input.now) self.now.walk.now.claims.now post.old }
+        requires walk { IsOneWalk N.plan N.meanings (B.planned self.now.walk_input.now) (B.named self.now.walk_input.now) (B.count self.now.walk_input.now) self.now.walk.now.claims.now.graph self.now.walk.now.tally.now N.table self.now.walk.now.stop.now N.flag (map meaning providers.now) }
+        requires position { IsPosition N.meanings N.plan N.table (B.planned self.now.walk_input.now) (B.named self.now.walk_input.now) self.now.walk.now.claims.now position.old }
         requires action { action < N.plan.order.nodes }
-        ensures { IsPost N.meanings N.plan N.table (B.planned self.now.walk_input.now) (B.named self.now.walk_input.now) self.now.walk.now.claims.now post.new }
+        ensures { IsPosition N.meanings N.plan N.table (B.planned self.now.walk_input.now) (B.named self.now.walk_input.now) self.now.walk.now.claims.now position.new }
     {
         let walk = self.walk;
-        let Some(permit) = walk.claims.claim(&mut post.seat, action) else {
+        let Some(permit) = walk.claims.claim(&mut position.seat, action) else {
             return false;
         };
-        let Some(part) = post.part.take() else {
+        let Some(part) = position.part.take() else {
             unreachable!()
         };
         let context = WorkerContext {
@@ -230,16 +243,16 @@ impl<'a, N: WalkBrand, B: WalkInput<N>, R: Wait> Worker<'a, '_, N, B, R> {
             tally: walk.tally,
             stop: walk.stop,
         };
-        let (finished, part) = context.end_action(providers, permit, &mut post.memo, part);
-        post.part = Some(part);
-        post.hinting.begin();
-        walk.claims.finish(&mut post.seat, finished);
+        let (published, part) = context.end_action(providers, permit, &mut position.memo, part);
+        position.part = Some(part);
+        position.hinting.begin();
+        let owing = walk.claims.finish(&mut position.seat, published);
         walk.claims
-            .let_go_from(&mut post.seat, action, &mut post.hinting);
-        if post.hinting.is_lost {
-            walk.progress.look_anew();
+            .release(&mut position.seat, owing, &mut position.hinting);
+        if position.hinting.is_lost {
+            walk.progress.rescan();
         }
-        walk.progress.tell_end(post.hinting.free);
+        walk.progress.tell_end(position.hinting.free);
         true
     }
 }

@@ -1,4 +1,4 @@
-use Rattle.std.proofs.Common.{map, ap}
+use Rattle.std.proofs.Common.{Ok, map, ap}
 use Rattle.std.specs.Prelude.{IsTrue}
 use Rattle.tf_config_data.specs.Config.{config_of}
 use Rattle.tf_config_data.specs.Names.{names_of}
@@ -28,8 +28,8 @@ ask_provider-requires-clause-served g c =
 pub ask_provider-requires-clause-so_far : goal.ask_provider-requires-clause-so_far
 ask_provider-requires-clause-so_far g c = empty_so_far (plan_of c.args.plan.now) _ c.new-kept.result.items c.new-kept.ensures.items
 
-pub returns : goal.returns
-returns g c =
+pub returns-in-Ok : goal.returns-in-Ok
+returns-in-Ok g c =
     let ms = map (λ b. (goal.Provider-dyn g (b.vtable, b.value)).meaning b.value) c.args.providers.now in
     let plan = plan_of c.args.plan.now in
     let n = c.args.action in
@@ -38,4 +38,4 @@ returns g c =
     let is = rw c.as_slice-actions.ensures.value at c.index-actions-action.is in
     let here = slice_get-map action_of c.args.plan.now.actions.items n c.index-actions-action.result c.requires.inside is in
     let served = read_at action_of (IsServedBy ms) c.args.plan.now.actions.items n c.index-actions-action.result c.requires.served c.requires.inside is in
-    asked_here ms (λ q s. IsTrue (asks_fully q s)) plan n objects _ a c.ask_provider.result here served c.objects_before-objects.ensures c.ask_provider.ensures.served c.ask_provider.ensures.asked
+    asked_here ms (λ q s. IsTrue (asks_fully q s)) plan n objects _ a (Ok c.in-Ok.made) here served c.objects_before-objects.ensures c.in-Ok.ensures.served c.in-Ok.ensures.asked

@@ -2,7 +2,7 @@ use Rattle.std.proofs.Common.{◌∙◌, ℕ, Result, map, refl, sym, subst}
 use Rattle.tf_walk_action.specs.AskedBy.{asked_by}
 use Rattle.tf_walk_workers.specs.Ideal.{IsTrueTo}
 use Rattle.tf_plan_object.specs.Instance.{instance_fault_of}
-use Rattle.tf_walk_action.specs.ResultViews.{action_result_of}
+use Rattle.tf_walk_action.specs.ResultViews.{IsByFlag, action_result_of}
 use Rattle.tf_walk_action.specs.Outcome.{faulted, comes_of}
 use Rattle.tf_walk_action.specs.Run.{IsRun}
 use Rattle.tf_walk_action.specs.declared.prepared_call.PreparedCall.{PreparedCall}
@@ -24,3 +24,6 @@ returns-in-Ok-Ok-clause-ended g c =
     let reported = action_result_of c.serve.result.ended in
     let run : IsRun (comes_of ms (asked_by c.in-Ok-Ok.field-0)) reported = subst (λ (made : Result PreparedCall Faulted). IsRun (comes_of ms (asked_by made)) reported) (sym c.in-Ok-Ok.field-0-is) c.serve.ensures.ended in
     subst (λ (n : ℕ). IsTrueTo g.N.WalkBrand.meanings g.N.WalkBrand.plan n reported) c.action-action.ensures (c.in-Ok-Ok.ensures.asked reported run)
+
+pub returns-in-Ok-Ok-clause-flag : goal.returns-in-Ok-Ok-clause-flag
+returns-in-Ok-Ok-clause-flag g c = subst (λ (f : ℕ). IsByFlag f c.serve.result.ended) (c.in-Ok.ensures ∙ c.requires.flag) c.serve.ensures.flag
