@@ -1,11 +1,12 @@
 //! The blocks that a configuration declares.
 
-use crate::positions::{Member, member_named, members, name_of, top};
+use crate::near::Nearest;
+use crate::positions::{Member, is_comment, member_count, member_named, members, name_of, top};
 use crate::span::Span;
 use std::alloc::{AllocError, Global};
 
 /// An address of a resource or of one of its instances, and what follows it.
-#[derive(Clone, Copy, Debug)]
+#[derive(Clone, Copy)]
 pub(crate) struct Address<'a> {
     /// The type.
     pub(crate) type_name: &'a str,
@@ -35,132 +36,154 @@ pub(crate) fn read_address(place: &str) -> Option<Address<'_>> {
 }
 
 /// Returns the property of a name in the top object of a text.
-///
-/// # Errors
-///
-/// Fails only if memory runs out.
-pub(crate) fn section(
-    alloc: Global,
-    text: &[u8],
-    name: &str,
-) -> Result<Option<Member>, AllocError> {
-    member_named(alloc, text, top(text), name)
+pub(crate) fn section(text: &[u8], name: &str) -> Option<Member> {
+    member_named(text, top(text), name)
 }
 
 /// Returns the declaration of a variable, a local or an output, by the name of its section.
-///
-/// # Errors
-///
-/// Fails only if memory runs out.
-pub(crate) fn declaration(
-    alloc: Global,
-    text: &[u8],
-    section_name: &str,
-    name: &str,
-) -> Result<Option<Member>, AllocError> {
-    match section(alloc, text, section_name)? {
-        Some(found) => member_named(alloc, text, found.value, name),
-        None => Ok(None),
-    }
+pub(crate) fn declaration(text: &[u8], section_name: &str, name: &str) -> Option<Member> {
+    let found = section(text, section_name)?;
+    member_named(text, found.value, name)
 }
 
 /// Returns the types of the blocks of resources, with their blocks.
-///
-/// # Errors
-///
-/// Fails only if memory runs out.
-pub(crate) fn resource_type(
-    alloc: Global,
-    text: &[u8],
-    type_name: &str,
-) -> Result<Option<Member>, AllocError> {
-    declaration(alloc, text, "resource", type_name)
+pub(crate) fn resource_type(text: &[u8], type_name: &str) -> Option<Member> {
+    declaration(text, "resource", type_name)
 }
 
 /// Returns the block of a resource.
-///
-/// # Errors
-///
-/// Fails only if memory runs out.
-pub(crate) fn block(
-    alloc: Global,
-    text: &[u8],
-    type_name: &str,
-    name: &str,
-) -> Result<Option<Member>, AllocError> {
-    match resource_type(alloc, text, type_name)? {
-        Some(found) => member_named(alloc, text, found.value, name),
-        None => Ok(None),
-    }
+pub(crate) fn block(text: &[u8], type_name: &str, name: &str) -> Option<Member> {
+    let found = resource_type(text, type_name)?;
+    member_named(text, found.value, name)
+}
+
+/// Returns the block that an address names.
+pub(crate) fn block_at(text: &[u8], place: &str) -> Option<Member> {
+    let address = read_address(place)?;
+    block(text, address.type_name, address.name)
 }
 
 /// Returns whether the block of a resource has a property.
-///
-/// # Errors
-///
-/// Fails only if memory runs out.
-pub(crate) fn block_has(
-    alloc: Global,
-    text: &[u8],
-    block: Member,
-    name: &str,
-) -> Result<bool, AllocError> {
-    Ok(member_named(alloc, text, block.value, name)?.is_some())
+pub(crate) fn block_has(text: &[u8], block: Member, name: &str) -> bool {
+    member_named(text, block.value, name).is_some()
 }
 
-/// Returns the names of the properties in an object, but for comments.
+/// Returns a setting in the `lifecycle` of a block.
+pub(crate) fn lifecycle_setting(text: &[u8], block: Member, name: &str) -> Option<Member> {
+    let lifecycle = member_named(text, block.value, "lifecycle")?;
+    member_named(text, lifecycle.value, name)
+}
+
+/// Returns how many names a section of a configuration declares.
+pub(crate) fn declared_count(text: &[u8], section_name: &str) -> usize {
+    match section(text, section_name) {
+        Some(found) => member_count(text, found.value),
+        None => 0,
+    }
+}
+
+/// Returns how many blocks of resources a configuration has.
 ///
 /// # Errors
 ///
 /// Fails only if memory runs out.
-pub(crate) fn names_in(
+pub(crate) fn block_count(alloc: Global, text: &[u8]) -> Result<usize, AllocError> {
+    let Some(resources) = section(text, "resource") else {
+        return Ok(0);
+    };
+    let mut count = 0usize;
+    for kind in &members(alloc, text, resources.value)? {
+        count = count.saturating_add(member_count(text, kind.value));
+    }
+    Ok(count)
+}
+
+/// Adds the names of the properties in an object to some, but for comments.
+///
+/// # Errors
+///
+/// Fails only if memory runs out.
+pub(crate) fn add_names(
     alloc: Global,
+    names: &mut Vec<String>,
     text: &[u8],
     object: Span,
-) -> Result<Vec<String>, AllocError> {
-    let mut names = Vec::new(alloc);
+) -> Result<(), AllocError> {
     for member in &members(alloc, text, object)? {
-        let name = name_of(alloc, text, member)?;
-        if name.as_str() != "//" {
-            names.push(name)?;
+        if !is_comment(text, *member) {
+            names.push(name_of(alloc, text, member)?)?;
         }
     }
-    Ok(names)
+    Ok(())
 }
 
-/// Returns the names that a section of a configuration declares.
+/// Adds the names that a section of a configuration declares to some.
 ///
 /// # Errors
 ///
 /// Fails only if memory runs out.
-pub(crate) fn names_of_section(
+pub(crate) fn add_declared(
     alloc: Global,
+    names: &mut Vec<String>,
     text: &[u8],
     section_name: &str,
-) -> Result<Vec<String>, AllocError> {
-    match section(alloc, text, section_name)? {
-        Some(found) => names_in(alloc, text, found.value),
-        None => Ok(Vec::new(alloc)),
+) -> Result<(), AllocError> {
+    match section(text, section_name) {
+        Some(found) => add_names(alloc, names, text, found.value),
+        None => Ok(()),
     }
 }
 
-/// Returns the addresses of all resources of a configuration.
+/// Looks for a near name among those of the properties in an object, each after a prefix such as `var.`.
 ///
 /// # Errors
 ///
 /// Fails only if memory runs out.
-pub(crate) fn addresses(alloc: Global, text: &[u8]) -> Result<Vec<String>, AllocError> {
-    let mut found = Vec::new(alloc);
-    let Some(resources) = section(alloc, text, "resource")? else {
-        return Ok(found);
-    };
-    for kind in &members(alloc, text, resources.value)? {
-        let type_name = name_of(alloc, text, kind)?;
-        for name in &names_in(alloc, text, kind.value)? {
-            let type_name = type_name.as_str();
-            let name = name.as_str();
-            found.push(format!(in alloc; "{type_name}.{name}")?)?;
+pub(crate) fn consider_members(
+    nearest: &mut Nearest<'_>,
+    text: &[u8],
+    object: Span,
+    prefix: &str,
+) -> Result<(), AllocError> {
+    let alloc = nearest.alloc;
+    for member in &members(alloc, text, object)? {
+        if !is_comment(text, *member) {
+            consider_member(nearest, text, *member, prefix)?;
         }
     }
-    Ok(found)
+    Ok(())
+}
+
+/// Considers the name of a property, after a prefix.
+fn consider_member(
+    nearest: &mut Nearest<'_>,
+    text: &[u8],
+    member: Member,
+    prefix: &str,
+) -> Result<(), AllocError> {
+    let name = name_of(nearest.alloc, text, &member)?;
+    nearest.consider_after(prefix, name.as_str())
+}
+
+/// Looks for a near name among the addresses of all resources of a configuration.
+///
+/// # Errors
+///
+/// Fails only if memory runs out.
+pub(crate) fn consider_addresses(nearest: &mut Nearest<'_>, text: &[u8]) -> Result<(), AllocError> {
+    let Some(resources) = section(text, "resource") else {
+        return Ok(());
+    };
+    let alloc = nearest.alloc;
+    for kind in &members(alloc, text, resources.value)? {
+        consider_type(nearest, text, *kind)?;
+    }
+    Ok(())
+}
+
+/// Looks for a near name among the addresses of the resources of a type.
+fn consider_type(nearest: &mut Nearest<'_>, text: &[u8], kind: Member) -> Result<(), AllocError> {
+    let mut prefix = name_of(nearest.alloc, text, &kind)?;
+    prefix.push('.')?;
+    consider_members(nearest, text, kind.value, prefix.as_str())
 }

@@ -40,26 +40,35 @@ pub fn explanation<'l, 's>(
     sources: Sources<'s>,
 ) -> Result<String, AllocError> {
     let mut page = Page::new(alloc);
+    explain_line(&mut page, line, sources)?;
+    Ok(page.into_text())
+}
+
+/// Explains a line.
+fn explain_line(
+    page: &mut Page,
+    line: ErrorLine<'_>,
+    sources: Sources<'_>,
+) -> Result<(), AllocError> {
     let detail = detail_of(line.message);
     match line.code {
-        1 => explain_file(&mut page, line.place, sources)?,
-        2 => explain_shape(&mut page, line.place, sources)?,
-        3 => explain_template(&mut page, line.place, detail, sources)?,
-        4 => explain_names(&mut page, line.place, sources)?,
-        5 => explain_cycle(&mut page, detail, sources)?,
-        6 => explain_count(&mut page, line.place, sources)?,
-        7 => explain_for_each(&mut page, line.place, sources)?,
-        8 => explain_unknown_instances(&mut page, line.place, sources)?,
-        9 => explain_evaluation(&mut page, line.place, detail, sources)?,
-        10 => explain_argument(&mut page, line.place, sources)?,
-        11 => explain_no_provider(&mut page, line.place, sources)?,
-        12 => explain_prevented(&mut page, line.place, sources)?,
-        13 => explain_state(&mut page, line.place, sources)?,
-        14 => explain_limit(&mut page, line.place, sources)?,
-        21..=27 => explain_diagnostic(&mut page, line, sources)?,
-        _ => {}
+        1 => explain_file(page, line.place, sources),
+        2 => explain_shape(page, line.place, sources),
+        3 => explain_template(page, line.place, detail, sources),
+        4 => explain_names(page, line.place, sources),
+        5 => explain_cycle(page, detail, sources),
+        6 => explain_count(page, line.place, sources),
+        7 => explain_for_each(page, line.place, sources),
+        8 => explain_unknown_instances(page, line.place, sources),
+        9 => explain_evaluation(page, line.place, detail, sources),
+        10 => explain_argument(page, line.place, sources),
+        11 => explain_no_provider(page, line.place, sources),
+        12 => explain_prevented(page, line.place, sources),
+        13 => explain_state(page, line.place, sources),
+        14 => explain_limit(page, line.place, sources),
+        21..=27 => explain_diagnostic(page, line, sources),
+        _ => Ok(()),
     }
-    Ok(page.into_text())
 }
 
 /// Explains why a file isn't JSON.

@@ -35,6 +35,30 @@ pub(crate) fn text_in(alloc: Global, text: &[u8], span: Span) -> Result<String, 
     decoded(alloc, bytes_in(text, between_quotes(text, span)))
 }
 
+/// Returns whether the JSON text in a range, whose quotes are in the range, spells a text.
+pub(crate) fn is_text(text: &[u8], span: Span, wanted: &str) -> bool {
+    spelled_length(bytes_in(text, between_quotes(text, span)), wanted) == Some(wanted.len())
+}
+
+/// Returns the length of the text that is spelled between quotes, if another text begins with it.
+pub(crate) fn spelled_length(raw: &[u8], text: &str) -> Option<usize> {
+    let mut at = 0usize;
+    let mut length = 0usize;
+    for character in text.chars() {
+        let rest = raw.get(at..).unwrap_or(b"");
+        if rest.is_empty() {
+            return Some(length);
+        }
+        let (spelled, size) = next_char(rest);
+        if spelled != character {
+            return None;
+        }
+        length = length.saturating_add(character.len_utf8());
+        at = at.saturating_add(size);
+    }
+    if at < raw.len() { None } else { Some(length) }
+}
+
 /// Returns the position, in the spelling of a text, of the character at a byte offset of the decoded text.
 pub(crate) fn spelled_at(raw: &[u8], offset: usize) -> usize {
     let mut at = 0usize;

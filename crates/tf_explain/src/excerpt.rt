@@ -41,12 +41,37 @@ pub(crate) fn push_excerpt(
 ) -> Result<(), AllocError> {
     let line = line_at(file.bytes, span.start);
     let before = char_count(file.bytes, line.span.start, span.start);
-    let column = before.saturating_add(1);
-    let number = line.number;
+    push_place(out, file.name, line.number, before.saturating_add(1))?;
+    let mut window = Window {
+        shown: String::new(alloc),
+        marks: String::new(alloc),
+    };
+    push_line(out, &mut window, file.bytes, line, span, before)
+}
+
+/// Appends the file, the line and the column of a place.
+fn push_place(
+    out: &mut String,
+    name: &str,
+    number: usize,
+    column: usize,
+) -> Result<(), AllocError> {
     out.push_str("  on ")?;
-    push_shown(out, file.name)?;
-    write!(out, " line {number}, column {column}:\n")?;
-    let window = window_of(alloc, file.bytes, line.span, span, before)?;
+    push_shown(out, name)?;
+    write!(out, " line {number}, column {column}:\n")
+}
+
+/// Appends a line, and marks under a place in it. Before the place there is the given number of characters.
+fn push_line(
+    out: &mut String,
+    window: &mut Window,
+    text: &[u8],
+    line: Line,
+    place: Span,
+    before: usize,
+) -> Result<(), AllocError> {
+    fill(window, text, line.span, place, before)?;
+    let number = line.number;
     let shown = window.shown.as_str();
     let marks = window.marks.as_str();
     write!(out, "{number:>6}: {shown}\n        {marks}\n")
@@ -101,18 +126,14 @@ fn char_count(text: &[u8], start: usize, end: usize) -> usize {
     count
 }
 
-/// Returns what is shown of a line: all of it, or of a long line the part around a place.
-fn window_of(
-    alloc: Global,
+/// Fills a window with what is shown of a line: all of it, or of a long line the part around a place.
+fn fill(
+    window: &mut Window,
     text: &[u8],
     line: Span,
     place: Span,
     before: usize,
-) -> Result<Window, AllocError> {
-    let mut window = Window {
-        shown: String::new(alloc),
-        marks: String::new(alloc),
-    };
+) -> Result<(), AllocError> {
     let is_long = char_count(text, line.start, line.end) > MOST_SHOWN;
     let skipped = if is_long {
         before.saturating_sub(SHOWN_BEFORE)
@@ -123,18 +144,17 @@ fn window_of(
         window.shown.push_str("...")?;
         window.marks.push_str("   ")?;
     }
-    let is_whole = fill(&mut window, text, line, place, skipped)?;
-    if !is_whole {
+    if !add_line(window, text, line, place, skipped)? {
         window.shown.push_str("...")?;
     }
     if !window.marks.contains("^") {
         window.marks.push('^')?;
     }
-    Ok(window)
+    Ok(())
 }
 
 /// Adds the characters of a line after the skipped ones. Returns whether all of them are shown.
-fn fill(
+fn add_line(
     window: &mut Window,
     text: &[u8],
     line: Span,

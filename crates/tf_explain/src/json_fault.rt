@@ -1,7 +1,7 @@
 //! Why a text isn't JSON, and where.
 
 use crate::positions::{is_space, skip_space};
-use crate::span::{Span, byte_at, bytes_in};
+use crate::span::{Span, byte_at, byte_span, bytes_in};
 use crate::tokens::{number_fault, text_fault, word_span};
 use std::alloc::{AllocError, Global};
 
@@ -114,19 +114,10 @@ pub fn json_fault(alloc: Global, text: &[u8]) -> Result<Option<JsonFault>, Alloc
         open: Vec::new(alloc),
         comma: 0,
     };
-    for _ in 0..text.len().saturating_add(1) {
-        match scan.step()? {
-            Step::On => {}
-            Step::Done => return Ok(None),
-            Step::Fault(kind, span) => {
-                let open = scan.innermost();
-                return Ok(Some(JsonFault { kind, span, open }));
-            }
-        }
-    }
-    Ok(None)
+    scan.fault_in()
 }
 
+/// Returns a fault outside all brackets.
 fn alone(kind: JsonFaultKind, start: usize, end: usize) -> JsonFault {
     JsonFault {
         kind,
@@ -136,11 +127,25 @@ fn alone(kind: JsonFaultKind, start: usize, end: usize) -> JsonFault {
 }
 
 impl Scan<'_> {
+    /// Reads the text up to its first fault.
+    fn fault_in(&mut self) -> Result<Option<JsonFault>, AllocError> {
+        for _ in 0..self.text.len().saturating_add(1) {
+            match self.step()? {
+                Step::On => {}
+                Step::Done => return Ok(None),
+                Step::Fault(kind, span) => {
+                    let open = self.innermost();
+                    return Ok(Some(JsonFault { kind, span, open }));
+                }
+            }
+        }
+        Ok(None)
+    }
+
     /// Returns the innermost bracket that is open.
     fn innermost(&self) -> Option<Span> {
         let start = self.open.last().copied()?;
-        let end = start.saturating_add(1);
-        Some(Span { start, end })
+        Some(byte_span(start))
     }
 
     /// Returns whether the innermost bracket is an object's.
@@ -151,16 +156,14 @@ impl Scan<'_> {
         }
     }
 
-    /// Returns the byte at which the scan is.
-    fn here(&self) -> Span {
-        Span {
-            start: self.at,
-            end: self.at.saturating_add(1),
-        }
+    /// Returns a fault at the byte at which the scan is.
+    fn fault(&self, kind: JsonFaultKind) -> Step {
+        Step::Fault(kind, byte_span(self.at))
     }
 
-    fn fault(&self, kind: JsonFaultKind) -> Step {
-        Step::Fault(kind, self.here())
+    /// Returns the fault of the last comma.
+    fn trailing_comma(&self) -> Step {
+        Step::Fault(JsonFaultKind::TrailingComma, byte_span(self.comma))
     }
 
     /// Goes to a position, after which something is wanted.
@@ -207,13 +210,7 @@ impl Scan<'_> {
             b'"' => Ok(self.quoted(Wanted::Next)),
             b'-' | b'0'..=b'9' | b'+' | b'.' => Ok(self.number()),
             b']' | b'}' if byte_at(self.text, self.comma) == b',' && self.is_after_comma() => {
-                Ok(Step::Fault(
-                    JsonFaultKind::TrailingComma,
-                    Span {
-                        start: self.comma,
-                        end: self.comma.saturating_add(1),
-                    },
-                ))
+                Ok(self.trailing_comma())
             }
             b']' | b'}' | b',' | b':' => Ok(self.fault(JsonFaultKind::MissingValue)),
             _ => Ok(self.word(byte)),
@@ -272,13 +269,7 @@ impl Scan<'_> {
     fn name(&mut self, byte: u8) -> Step {
         match byte {
             b'"' => self.quoted(Wanted::Colon),
-            b'}' => Step::Fault(
-                JsonFaultKind::TrailingComma,
-                Span {
-                    start: self.comma,
-                    end: self.comma.saturating_add(1),
-                },
-            ),
+            b'}' => self.trailing_comma(),
             b',' | b':' | b'{' | b'[' | b']' => self.fault(JsonFaultKind::Other),
             _ => {
                 let span = word_span(self.text, self.at);

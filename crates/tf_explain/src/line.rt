@@ -6,7 +6,7 @@ use crate::span::byte_at;
 const FIRST_DIAGNOSTIC: u8 = 21;
 
 /// A line of a refusal or a diagnostic.
-#[derive(Clone, Copy, Debug)]
+#[derive(Clone, Copy)]
 pub struct ErrorLine<'a> {
     /// The number after `error`.
     pub code: u8,

@@ -12,7 +12,8 @@ const MOST_EDITS: usize = 2;
 /// The best name so far, and how many edits lead to it.
 #[derive(Drop)]
 pub(crate) struct Nearest<'a> {
-    alloc: Global,
+    /// The allocator of the best name.
+    pub(crate) alloc: Global,
     wanted: &'a str,
     best: Option<String>,
     edits: usize,
@@ -46,45 +47,35 @@ impl<'a> Nearest<'a> {
         Ok(())
     }
 
-    /// Returns the nearest name, if one is near.
-    pub(crate) fn best(&self) -> Option<&str> {
-        self.best.as_ref().map(|name| name.as_str())
-    }
-
-    /// Returns the suggestion, a sentence after a space, or nothing if no name is near.
+    /// Considers some names.
     ///
     /// # Errors
     ///
     /// Fails only if memory runs out.
-    pub(crate) fn suggestion(&self) -> Result<String, AllocError> {
-        match &self.best {
-            Some(name) => {
-                let name = name.as_str();
-                format!(in self.alloc; " Did you mean `{name}`?")
-            }
-            None => Ok(String::new(self.alloc)),
+    pub(crate) fn consider_all(&mut self, names: &[&str]) -> Result<(), AllocError> {
+        for name in names {
+            self.consider(*name)?;
         }
+        Ok(())
+    }
+
+    /// Considers a name after a prefix.
+    ///
+    /// # Errors
+    ///
+    /// Fails only if memory runs out.
+    pub(crate) fn consider_after(&mut self, prefix: &str, name: &str) -> Result<(), AllocError> {
+        let candidate = format!(in self.alloc; "{prefix}{name}")?;
+        self.consider(candidate.as_str())
+    }
+
+    /// Returns the nearest name, if one is near.
+    pub(crate) fn best(&self) -> Option<&str> {
+        self.best.as_ref().map(|name| name.as_str())
     }
 }
 
 /// Returns whether a name of this length is near one that the given number of edits leads to: at most one edit for three bytes.
 fn is_near(edits: usize, length: usize) -> bool {
     edits <= MOST_EDITS && edits.saturating_mul(3) <= length.saturating_add(1)
-}
-
-/// Returns the suggestion of the nearest of some names.
-///
-/// # Errors
-///
-/// Fails only if memory runs out.
-pub(crate) fn suggestion_among(
-    alloc: Global,
-    wanted: &str,
-    names: &[&str],
-) -> Result<String, AllocError> {
-    let mut nearest = Nearest::to(alloc, wanted);
-    for name in names {
-        nearest.consider(*name)?;
-    }
-    nearest.suggestion()
 }

@@ -1,10 +1,11 @@
 //! An explanation while it is written.
 
 use crate::excerpt::push_excerpt;
+use crate::near::Nearest;
 use crate::positions::Found;
 use crate::shown::push_shown;
 use crate::sources::SourceFile;
-use crate::span::Span;
+use crate::span::{Span, find_word};
 use std::alloc::{AllocError, Global};
 
 /// The most excerpts in one explanation.
@@ -53,6 +54,20 @@ impl Page {
         push_excerpt(self.alloc, &mut self.text, file, span)
     }
 
+    /// Adds the place of a word within a range, or all of the range if the word isn't in it.
+    ///
+    /// # Errors
+    ///
+    /// Fails only if memory runs out.
+    pub(crate) fn show_word(
+        &mut self,
+        file: SourceFile<'_>,
+        within: Span,
+        word: &str,
+    ) -> Result<(), AllocError> {
+        self.show(file, find_word(file.bytes, within, word).unwrap_or(within))
+    }
+
     /// Adds that a property is in its object twice, if it is, with its earlier place.
     ///
     /// # Errors
@@ -74,14 +89,24 @@ impl Page {
         }
     }
 
-    /// Adds the first line of a warning, from its parts.
+    /// Adds the first line of a warning, from its parts. It may have as many excerpts as a page.
     ///
     /// # Errors
     ///
     /// Fails only if memory runs out.
     pub(crate) fn warn(&mut self, parts: &[&str]) -> Result<(), AllocError> {
-        self.text.push_str("warning: ")?;
-        self.push_parts(parts)
+        self.excerpts = 0;
+        self.push_parts(&["warning: "])?;
+        self.end_line(parts)
+    }
+
+    /// Adds a line that ends with a number.
+    ///
+    /// # Errors
+    ///
+    /// Fails only if memory runs out.
+    pub(crate) fn count(&mut self, text: &str, number: usize) -> Result<(), AllocError> {
+        write!(self.text, "{text}{number}\n")
     }
 
     /// Adds a sentence, from its parts.
@@ -90,15 +115,55 @@ impl Page {
     ///
     /// Fails only if memory runs out.
     pub(crate) fn say(&mut self, parts: &[&str]) -> Result<(), AllocError> {
-        self.text.push_str("  ")?;
-        self.push_parts(parts)
+        self.push_parts(&["  "])?;
+        self.end_line(parts)
     }
 
-    /// Adds parts of a line, and its end.
+    /// Adds a sentence, from its parts, and the suggestion of a name if one is near.
+    ///
+    /// # Errors
+    ///
+    /// Fails only if memory runs out.
+    pub(crate) fn suggest(
+        &mut self,
+        parts: &[&str],
+        nearest: &Nearest<'_>,
+    ) -> Result<(), AllocError> {
+        self.push_parts(&["  "])?;
+        self.push_parts(parts)?;
+        match nearest.best() {
+            Some(name) => self.end_line(&[" Did you mean `", name, "`?"]),
+            None => self.end_line(&[]),
+        }
+    }
+
+    /// Adds a sentence, from its parts, and the suggestion of the nearest of some names to a word.
+    ///
+    /// # Errors
+    ///
+    /// Fails only if memory runs out.
+    pub(crate) fn suggest_among(
+        &mut self,
+        parts: &[&str],
+        wanted: &str,
+        names: &[&str],
+    ) -> Result<(), AllocError> {
+        let mut nearest = Nearest::to(self.alloc, wanted);
+        nearest.consider_all(names)?;
+        self.suggest(parts, &nearest)
+    }
+
+    /// Adds the last parts of a line, and its end.
+    fn end_line(&mut self, parts: &[&str]) -> Result<(), AllocError> {
+        self.push_parts(parts)?;
+        self.text.push('\n')
+    }
+
+    /// Adds parts of a line.
     fn push_parts(&mut self, parts: &[&str]) -> Result<(), AllocError> {
         for part in parts {
             push_shown(&mut self.text, *part)?;
         }
-        self.text.push('\n')
+        Ok(())
     }
 }

@@ -6,7 +6,7 @@
 ghost use Rattle.std.specs.Prelude.{◌≤◌, length, IfSome};
 ghost use Rattle.tf_explain.specs.Spans.{IsIn};
 
-use crate::decoding::decoded;
+use crate::decoding::{is_text, spelled_length, text_in};
 use crate::span::{Span, between_quotes, byte_at, bytes_in};
 use std::alloc::{AllocError, Global};
 
@@ -14,7 +14,7 @@ use std::alloc::{AllocError, Global};
 const MOST_STEPS: usize = 128;
 
 /// A property of an object.
-#[derive(Clone, Copy, Debug)]
+#[derive(Clone, Copy)]
 pub struct Member {
     /// Its name, with the quotes.
     pub name: Span,
@@ -170,6 +170,15 @@ fn after_comma(text: &[u8], from: usize) -> usize
     }
 }
 
+/// Returns the position from which the properties of the object in a range are read: the end of the text if it is no object.
+fn members_start(text: &[u8], object: Span) -> usize {
+    if byte_at(text, object.start) == b'{' {
+        object.start.saturating_add(1)
+    } else {
+        text.len()
+    }
+}
+
 /// Returns the properties of the object in a range, in their order. It has none if it is no object.
 ///
 /// # Errors
@@ -177,10 +186,7 @@ fn after_comma(text: &[u8], from: usize) -> usize
 /// Fails only if memory runs out.
 pub fn members(alloc: Global, text: &[u8], object: Span) -> Result<Vec<Member>, AllocError> {
     let mut found = Vec::new(alloc);
-    if byte_at(text, object.start) != b'{' {
-        return Ok(found);
-    }
-    let mut at = object.start.saturating_add(1);
+    let mut at = members_start(text, object);
     for _ in 0..text.len() {
         let Some(member) = next_member(text, at) else {
             break;
@@ -215,23 +221,40 @@ pub fn items(alloc: Global, text: &[u8], array: Span) -> Result<Vec<Span>, Alloc
 }
 
 /// Returns the last property of a name in an object.
-///
-/// # Errors
-///
-/// Fails only if memory runs out.
-pub fn member_named(
-    alloc: Global,
-    text: &[u8],
-    object: Span,
-    name: &str,
-) -> Result<Option<Member>, AllocError> {
+pub fn member_named(text: &[u8], object: Span, name: &str) -> Option<Member> {
     let mut last = None;
-    for member in &members(alloc, text, object)? {
-        if name_of(alloc, text, member)?.as_str() == name {
-            last = Some(*member);
+    let mut at = members_start(text, object);
+    for _ in 0..text.len() {
+        let Some(member) = next_member(text, at) else {
+            break;
+        };
+        at = member.value.end;
+        if is_text(text, member.name, name) {
+            last = Some(member);
         }
     }
-    Ok(last)
+    last
+}
+
+/// Returns whether a property is a comment.
+pub(crate) fn is_comment(text: &[u8], member: Member) -> bool {
+    is_text(text, member.name, "//")
+}
+
+/// Returns how many properties an object has, but for comments.
+pub(crate) fn member_count(text: &[u8], object: Span) -> usize {
+    let mut count = 0usize;
+    let mut at = members_start(text, object);
+    for _ in 0..text.len() {
+        let Some(member) = next_member(text, at) else {
+            break;
+        };
+        at = member.value.end;
+        if !is_comment(text, member) {
+            count = count.saturating_add(1);
+        }
+    }
+    count
 }
 
 /// Returns the name of a property, decoded.
@@ -240,7 +263,7 @@ pub fn member_named(
 ///
 /// Fails only if memory runs out.
 pub fn name_of(alloc: Global, text: &[u8], member: &Member) -> Result<String, AllocError> {
-    decoded(alloc, bytes_in(text, between_quotes(text, member.name)))
+    text_in(alloc, text, member.name)
 }
 
 /// Follows a path of property names and array positions, joined by dots, from the top of a text. If the path can be read in
@@ -286,11 +309,9 @@ fn member_step<'a>(
     let mut best: Option<Found<'a>> = None;
     let mut longest = 0usize;
     for member in &members(alloc, text, from.value)? {
-        let name = name_of(alloc, text, member)?;
-        let Some(rest) = rest_after(from.rest, name.as_str()) else {
+        let Some((length, rest)) = rest_after(text, *member, from.rest) else {
             continue;
         };
-        let length = name.len().saturating_add(1);
         if length >= longest {
             let earlier = match best {
                 Some(other) if length == longest => other.name,
@@ -318,24 +339,24 @@ fn item_step<'a>(
     let Ok(position) = first.parse::<usize>() else {
         return Ok(None);
     };
-    let items = items(alloc, text, from.value)?;
-    match items.get(position) {
-        Some(item) => Ok(Some(Found {
-            value: *item,
-            name: None,
-            earlier: None,
-            rest,
-        })),
-        None => Ok(None),
-    }
+    let item = items(alloc, text, from.value)?.get(position).copied();
+    Ok(item.map(|value| Found {
+        value,
+        name: None,
+        earlier: None,
+        rest,
+    }))
 }
 
-/// Returns the steps after a name, if a path begins with it.
-fn rest_after<'a>(path: &'a str, name: &str) -> Option<&'a str> {
-    let rest = path.strip_prefix(name)?;
+/// Returns the steps after the name of a property, if a path begins with it, and the length of the name and a dot.
+fn rest_after<'a>(text: &[u8], member: Member, path: &'a str) -> Option<(usize, &'a str)> {
+    let raw = bytes_in(text, between_quotes(text, member.name));
+    let length = spelled_length(raw, path)?;
+    let rest = path.get(length..)?;
+    let next = length.saturating_add(1);
     if rest.is_empty() {
-        Some(rest)
+        Some((next, rest))
     } else {
-        rest.strip_prefix(".")
+        Some((next, rest.strip_prefix(".")?))
     }
 }

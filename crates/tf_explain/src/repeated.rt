@@ -1,6 +1,6 @@
 //! Properties that an object has twice.
 
-use crate::decoding::decoded;
+use crate::decoding::{decoded, is_text, text_in};
 use crate::positions::{skip_space, string_end, value_end};
 use crate::span::{Span, between_quotes, byte_at, bytes_in};
 use std::alloc::{AllocError, Global};
@@ -27,7 +27,7 @@ pub enum ObjectKind {
 }
 
 /// A property that its object has more than once.
-#[derive(Debug, Drop)]
+#[derive(Drop)]
 pub struct Repeated {
     /// What its object has.
     pub kind: ObjectKind,
@@ -83,22 +83,29 @@ pub fn repeated_properties(alloc: Global, text: &[u8]) -> Result<Vec<Repeated>, 
         names: Vec::new(alloc),
         objects: 0,
     };
-    let mut at = 0usize;
-    for _ in 0..text.len() {
-        at = skip_space(text, at);
-        if at >= text.len() || scan.open.len() > MOST_OPEN {
-            break;
-        }
-        at = scan.step(at)?;
-    }
+    scan.read()?;
     let mut names = scan.into_names();
     names.sort_unstable_by_key(|name| (name.object, name.hash, name.span.start));
-    let mut found = groups(alloc, text, names.as_slice())?;
+    let mut found: Vec<Repeated> = Vec::new(alloc);
+    add_groups(alloc, &mut found, text, names.as_slice())?;
     found.sort_unstable_by_key(|group| group.last.start);
     Ok(found)
 }
 
 impl Scan<'_> {
+    /// Reads the text.
+    fn read(&mut self) -> Result<(), AllocError> {
+        let mut at = 0usize;
+        for _ in 0..self.text.len() {
+            at = skip_space(self.text, at);
+            if at >= self.text.len() || self.open.len() > MOST_OPEN {
+                break;
+            }
+            at = self.step(at)?;
+        }
+        Ok(())
+    }
+
     /// Returns the names that were read.
     fn into_names(self) -> Vec<Name> {
         let Scan {
@@ -210,9 +217,13 @@ fn hash_of_bytes(bytes: &[u8]) -> u64 {
     hash
 }
 
-/// Returns the groups of names that are alike and in one object, of names that are sorted by object, hash and place.
-fn groups(alloc: Global, text: &[u8], names: &[Name]) -> Result<Vec<Repeated>, AllocError> {
-    let mut found: Vec<Repeated> = Vec::new(alloc);
+/// Adds the groups of names that are alike and in one object, of names that are sorted by object, hash and place.
+fn add_groups(
+    alloc: Global,
+    found: &mut Vec<Repeated>,
+    text: &[u8],
+    names: &[Name],
+) -> Result<(), AllocError> {
     let mut before: Option<Name> = None;
     let mut is_open = false;
     for name in names {
@@ -223,12 +234,12 @@ fn groups(alloc: Global, text: &[u8], names: &[Name]) -> Result<Vec<Repeated>, A
         if let Some(other) = before
             && is_same
         {
-            add(alloc, &mut found, is_open, other, *name)?;
+            add(alloc, found, is_open, other, *name)?;
         }
         is_open = is_same;
         before = Some(*name);
     }
-    Ok(found)
+    Ok(())
 }
 
 /// Returns whether two names are alike and in one object.
@@ -236,9 +247,8 @@ fn is_alike(alloc: Global, text: &[u8], one: Name, other: Name) -> Result<bool, 
     if one.object != other.object || one.hash != other.hash {
         return Ok(false);
     }
-    let first = decoded(alloc, bytes_in(text, between_quotes(text, one.span)))?;
-    let second = decoded(alloc, bytes_in(text, between_quotes(text, other.span)))?;
-    Ok(first == second)
+    let first = text_in(alloc, text, one.span)?;
+    Ok(is_text(text, other.span, first.as_str()))
 }
 
 /// Adds a name to the last group, or to a new one with the name before it.
@@ -249,19 +259,16 @@ fn add(
     before: Name,
     name: Name,
 ) -> Result<(), AllocError> {
-    if is_open {
-        if let Some(group) = found.last_mut() {
-            group.others.push(before.span)?;
-            group.last = name.span;
-            return Ok(());
-        }
+    if !is_open {
+        found.push(Repeated {
+            kind: name.kind,
+            last: name.span,
+            others: Vec::new(alloc),
+        })?;
     }
-    let mut others = Vec::new(alloc);
-    others.push(before.span)?;
-    found.push(Repeated {
-        kind: name.kind,
-        last: name.span,
-        others,
-    })?;
+    if let Some(group) = found.last_mut() {
+        group.others.push(before.span)?;
+        group.last = name.span;
+    }
     Ok(())
 }

@@ -25,6 +25,19 @@ pub(crate) fn between_quotes(text: &[u8], span: Span) -> Span {
     }
 }
 
+/// Returns the first byte of a range.
+pub(crate) fn first_byte(span: Span) -> Span {
+    byte_span(span.start)
+}
+
+/// Returns the range of the byte at a position.
+pub(crate) fn byte_span(at: usize) -> Span {
+    Span {
+        start: at,
+        end: at.saturating_add(1),
+    }
+}
+
 /// Returns the byte at a position, or 0 after the end of the text.
 pub(crate) fn byte_at(text: &[u8], at: usize) -> u8 {
     text.get(at).copied().unwrap_or(0)

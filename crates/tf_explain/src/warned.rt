@@ -1,11 +1,11 @@
 //! Warnings on what is likely to be a mistake, although nothing is refused.
 
-use crate::blocks::{names_of_section, section};
+use crate::blocks::{add_declared, section};
 use crate::decoding::text_in;
 use crate::json_fault::json_fault;
 use crate::near::Nearest;
 use crate::page::Page;
-use crate::positions::{Member, member_named, members, name_of, top};
+use crate::positions::{Member, is_comment, member_named, members, name_of, top};
 use crate::repeated::{ObjectKind, Repeated, repeated_properties};
 use crate::sources::{SourceFile, Sources};
 use std::alloc::{AllocError, Global};
@@ -25,60 +25,73 @@ const MOST_NAMES: usize = 2_000;
 ///
 /// Fails only if memory runs out.
 pub fn warnings<R: Env>(alloc: Global, rt: &R, sources: Sources<'_>) -> Result<String, AllocError> {
-    let mut out = String::new(alloc);
-    if json_fault(alloc, sources.config.bytes)?.is_some() {
-        return Ok(out);
+    let mut page = Page::new(alloc);
+    warn(&mut page, rt, sources)?;
+    Ok(page.into_text())
+}
+
+/// Adds the warnings to a page.
+fn warn<R: Env>(page: &mut Page, rt: &R, sources: Sources<'_>) -> Result<(), AllocError> {
+    if json_fault(page.alloc, sources.config.bytes)?.is_some() {
+        return Ok(());
     }
-    warn_repeated(alloc, &mut out, sources.config, true)?;
+    warn_repeated(page, sources.config, true)?;
     let vars = match sources.vars {
-        Some(vars) if json_fault(alloc, vars.bytes)?.is_none() => Some(vars),
+        Some(vars) if json_fault(page.alloc, vars.bytes)?.is_none() => Some(vars),
         _ => None,
     };
     if let Some(vars) = vars {
-        warn_repeated(alloc, &mut out, vars, false)?;
-        warn_undeclared(alloc, &mut out, sources.config, vars)?;
+        warn_repeated(page, vars, false)?;
+        warn_undeclared(page, sources.config, vars)?;
     }
-    warn_environment(alloc, rt, &mut out, sources.config, vars)?;
-    Ok(out)
+    warn_environment(page, rt, sources.config, vars)
 }
 
 /// Warns of each property that an object of a file has twice. The file is the configuration, or it has values.
 fn warn_repeated(
-    alloc: Global,
-    out: &mut String,
+    page: &mut Page,
     file: SourceFile<'_>,
     is_configuration: bool,
 ) -> Result<(), AllocError> {
-    let found = repeated_properties(alloc, file.bytes)?;
+    let found = repeated_properties(page.alloc, file.bytes)?;
+    warn_groups(page, file, is_configuration, &found)
+}
+
+/// Warns of each group of properties of one name in an object.
+fn warn_groups(
+    page: &mut Page,
+    file: SourceFile<'_>,
+    is_configuration: bool,
+    found: &[Repeated],
+) -> Result<(), AllocError> {
     for group in found.iter().take(MOST_WARNINGS) {
-        let text = repeated_warning(alloc, file, is_configuration, group)?;
-        out.push_str(text.as_str())?;
+        let name = text_in(page.alloc, file.bytes, group.last)?;
+        warn_group(page, file, is_configuration, group, name.as_str())?;
     }
     let more = found.len().saturating_sub(MOST_WARNINGS);
     if more > 0 {
-        write!(
-            out,
-            "warning: properties that are written twice and not shown: {more}\n"
-        )?;
+        return page.count(
+            "warning: properties that are written twice and not shown: ",
+            more,
+        );
     }
     Ok(())
 }
 
-/// Returns the warning of a property that an object has twice.
-fn repeated_warning(
-    alloc: Global,
+/// Warns of a property that an object has twice.
+fn warn_group(
+    page: &mut Page,
     file: SourceFile<'_>,
     is_configuration: bool,
     group: &Repeated,
-) -> Result<String, AllocError> {
-    let name = text_in(alloc, file.bytes, group.last)?;
+    name: &str,
+) -> Result<(), AllocError> {
     let kind = if is_configuration {
         group.kind
     } else {
         ObjectKind::Other
     };
-    let mut page = Page::new(alloc);
-    page.warn(&["`", name.as_str(), "` is written twice in one object"])?;
+    page.warn(&["`", name, "` is written twice in one object"])?;
     page.show(file, group.last)?;
     page.say(&[if group.others.len() > 1 {
         "The last one counts. Before it there are these:"
@@ -88,8 +101,7 @@ fn repeated_warning(
     for other in &group.others {
         page.show(file, *other)?;
     }
-    page.say(&[consequence(kind, name.as_str())])?;
-    Ok(page.into_text())
+    page.say(&[consequence(kind, name)])
 }
 
 /// Returns what a property that is written twice leads to.
@@ -110,89 +122,104 @@ const RESOURCES_LOST: &str =
 
 /// Warns of each name in a variables file that the configuration doesn't declare.
 fn warn_undeclared(
-    alloc: Global,
-    out: &mut String,
+    page: &mut Page,
     config: SourceFile<'_>,
     vars: SourceFile<'_>,
 ) -> Result<(), AllocError> {
-    let mut declared = names_of_section(alloc, config.bytes, "variable")?;
+    let mut declared: Vec<String> = Vec::new(page.alloc);
+    add_declared(page.alloc, &mut declared, config.bytes, "variable")?;
     declared.sort_unstable();
+    let given = members(page.alloc, vars.bytes, top(vars.bytes))?;
+    warn_given(page, vars, &given, &declared)
+}
+
+/// Warns of each of some properties of a variables file whose name isn't among those that are declared.
+fn warn_given(
+    page: &mut Page,
+    vars: SourceFile<'_>,
+    given: &[Member],
+    declared: &[String],
+) -> Result<(), AllocError> {
     let mut count = 0usize;
-    for member in &members(alloc, vars.bytes, top(vars.bytes))? {
-        let name = name_of(alloc, vars.bytes, member)?;
-        if name.as_str() == "//" || declared.binary_search(&name).is_ok() {
+    for member in given {
+        let name = name_of(page.alloc, vars.bytes, member)?;
+        if is_comment(vars.bytes, *member) || declared.binary_search(&name).is_ok() {
             continue;
         }
         if count >= MOST_WARNINGS {
-            return out.push_str("warning: there are more variables that are not declared\n");
+            return page.warn(&["there are more variables that are not declared"]);
         }
         count = count.saturating_add(1);
-        let text = undeclared_warning(alloc, vars, *member, name.as_str(), &declared)?;
-        out.push_str(text.as_str())?;
+        warn_name(page, vars, *member, name.as_str(), declared)?;
     }
     Ok(())
 }
 
-/// Returns the warning of a name in a variables file that isn't declared.
-fn undeclared_warning(
-    alloc: Global,
+/// Warns of a name in a variables file that isn't declared.
+fn warn_name(
+    page: &mut Page,
     vars: SourceFile<'_>,
     member: Member,
     name: &str,
     declared: &[String],
-) -> Result<String, AllocError> {
-    let suggestion = suggestion_among_declared(alloc, name, declared)?;
-    let mut page = Page::new(alloc);
+) -> Result<(), AllocError> {
     page.warn(&["the variable `", name, "` is not declared"])?;
     page.show(vars, member.name)?;
-    page.say(&[
-        "The configuration declares no such variable, and its value isn't used.",
-        suggestion.as_str(),
-    ])?;
-    Ok(page.into_text())
-}
-
-/// Returns the suggestion of a declared name that is near, or nothing.
-fn suggestion_among_declared(
-    alloc: Global,
-    name: &str,
-    declared: &[String],
-) -> Result<String, AllocError> {
-    let mut nearest = Nearest::to(alloc, name);
+    let mut nearest = Nearest::to(page.alloc, name);
     for other in declared.iter().take(MOST_NAMES) {
         nearest.consider(other.as_str())?;
     }
-    nearest.suggestion()
+    page.suggest(
+        &["The configuration declares no such variable, and its value isn't used."],
+        &nearest,
+    )
 }
 
 /// Warns of each variable for which the environment has a value and the variables file has none.
 fn warn_environment<R: Env>(
-    alloc: Global,
+    page: &mut Page,
     rt: &R,
-    out: &mut String,
     config: SourceFile<'_>,
     vars: Option<SourceFile<'_>>,
 ) -> Result<(), AllocError> {
-    let Some(variables) = section(alloc, config.bytes, "variable")? else {
+    let Some(variables) = section(config.bytes, "variable") else {
         return Ok(());
     };
     let mut count = 0usize;
-    let declared = members(alloc, config.bytes, variables.value)?;
+    let declared = members(page.alloc, config.bytes, variables.value)?;
     for member in declared.iter().take(MOST_NAMES) {
-        let name = name_of(alloc, config.bytes, member)?;
-        let name = name.as_str();
-        let unread = format!(in alloc; "TF_VAR_{name}")?;
-        if !is_set(rt, unread.as_str()) || has_value(alloc, vars, name)? {
-            continue;
+        if warn_unread(page, rt, config, vars, *member, count)? {
+            count = count.saturating_add(1);
         }
-        if count >= MOST_WARNINGS {
-            return out.push_str("warning: more variables of the environment are not read\n");
+        if count > MOST_WARNINGS {
+            break;
         }
-        count = count.saturating_add(1);
-        let text = environment_warning(alloc, config, *member, unread.as_str())?;
-        out.push_str(text.as_str())?;
     }
     Ok(())
+}
+
+/// Warns of a variable if the environment has a value for it and the variables file has none. Returns whether it did. After the most
+/// warnings, it says that there are more.
+fn warn_unread<R: Env>(
+    page: &mut Page,
+    rt: &R,
+    config: SourceFile<'_>,
+    vars: Option<SourceFile<'_>>,
+    member: Member,
+    count: usize,
+) -> Result<bool, AllocError> {
+    let name = name_of(page.alloc, config.bytes, &member)?;
+    let mut unread = String::from_str(page.alloc, "TF_VAR_")?;
+    unread.push_str(name.as_str())?;
+    if !is_set(rt, unread.as_str()) || has_value(vars, name.as_str()) {
+        return Ok(false);
+    }
+    if count >= MOST_WARNINGS {
+        page.warn(&["more variables of the environment are not read"])?;
+    } else {
+        warn_variable(page, config, member, unread.as_str())?;
+    }
+    Ok(true)
 }
 
 /// Returns whether the environment has a variable.
@@ -202,30 +229,25 @@ fn is_set<R: Env>(rt: &R, name: &str) -> bool {
 }
 
 /// Returns whether a variables file has a value for a variable.
-fn has_value(alloc: Global, vars: Option<SourceFile<'_>>, name: &str) -> Result<bool, AllocError> {
+fn has_value(vars: Option<SourceFile<'_>>, name: &str) -> bool {
     match vars {
-        Some(vars) => {
-            let found = member_named(alloc, vars.bytes, top(vars.bytes), name)?;
-            Ok(found.is_some())
-        }
-        None => Ok(false),
+        Some(vars) => member_named(vars.bytes, top(vars.bytes), name).is_some(),
+        None => false,
     }
 }
 
-/// Returns the warning of a variable of the environment that isn't read.
-fn environment_warning(
-    alloc: Global,
+/// Warns of a variable of the environment that isn't read.
+fn warn_variable(
+    page: &mut Page,
     config: SourceFile<'_>,
     member: Member,
     unread: &str,
-) -> Result<String, AllocError> {
-    let mut page = Page::new(alloc);
+) -> Result<(), AllocError> {
     page.warn(&["`", unread, "` is not read"])?;
     page.show(config, member.name)?;
     page.say(&[
         "The environment has `",
         unread,
         "`, but values of variables aren't read from there. Write this one into the file of --vars.",
-    ])?;
-    Ok(page.into_text())
+    ])
 }

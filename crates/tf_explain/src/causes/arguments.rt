@@ -1,9 +1,8 @@
 //! Arguments that don't fit the schema of their type, and values of variables.
 
-use crate::blocks::{block, declaration, names_in, names_of_section, read_address};
-use crate::causes::evaluation_terms::say_attribute;
-use crate::causes::names::is_among;
-use crate::decoding::text_in;
+use crate::blocks::{add_declared, add_names, block, declaration, lifecycle_setting, read_address};
+use crate::causes::evaluation_terms::{say_attribute, value_of_variable};
+use crate::decoding::{is_text, text_in};
 use crate::near::Nearest;
 use crate::page::Page;
 use crate::positions::{Member, items, member_named, top};
@@ -29,13 +28,13 @@ pub(crate) fn explain_argument(
         return Ok(());
     };
     let config = sources.config;
-    let Some(found) = block(page.alloc, config.bytes, address.type_name, address.name)? else {
+    let Some(found) = block(config.bytes, address.type_name, address.name) else {
         return Ok(());
     };
     let Some(schema) = schema_for(sources.providers, address.type_name) else {
         return Ok(());
     };
-    let argument = member_named(page.alloc, config.bytes, found.value, address.attribute)?;
+    let argument = member_named(config.bytes, found.value, address.attribute);
     match schema.attribute(address.attribute) {
         None => {
             let span = match argument {
@@ -58,14 +57,11 @@ pub(crate) fn explain_argument(
 
 /// Returns where a name is in `ignore_changes`, or where its block's name is.
 fn ignored_at(alloc: Global, text: &[u8], block: Member, name: &str) -> Result<Span, AllocError> {
-    let Some(lifecycle) = member_named(alloc, text, block.value, "lifecycle")? else {
-        return Ok(block.name);
-    };
-    let Some(ignored) = member_named(alloc, text, lifecycle.value, "ignore_changes")? else {
+    let Some(ignored) = lifecycle_setting(text, block, "ignore_changes") else {
         return Ok(block.name);
     };
     for item in &items(alloc, text, ignored.value)? {
-        if text_in(alloc, text, *item)?.as_str() == name {
+        if is_text(text, *item, name) {
             return Ok(*item);
         }
     }
@@ -186,26 +182,35 @@ impl Given {
 /// Explains a variable without a value, or with one that doesn't fit its type.
 fn explain_variable(page: &mut Page, name: &str, sources: Sources<'_>) -> Result<(), AllocError> {
     let config = sources.config;
-    let Some(variable) = declaration(page.alloc, config.bytes, "variable", name)? else {
+    let Some(variable) = declaration(config.bytes, "variable", name) else {
         return Ok(());
     };
-    let type_member = member_named(page.alloc, config.bytes, variable.value, "type")?;
-    let type_name = match type_member {
-        Some(member) => text_in(page.alloc, config.bytes, member.value)?,
-        None => String::from_str(page.alloc, "any")?,
-    };
-    if let Some(vars) = sources.vars {
-        if let Some(value) = member_named(page.alloc, vars.bytes, top(vars.bytes), name)? {
-            page.show(vars, value.value)?;
-            return say_misfit(page, name, type_name.as_str());
+    match value_of_variable(name, sources) {
+        Some((file, value)) => {
+            page.show(file, value)?;
+            explain_misfit(page, name, config, variable)
+        }
+        None => {
+            page.show(config, variable.name)?;
+            explain_no_value(page, name, sources)
         }
     }
-    if let Some(default) = member_named(page.alloc, config.bytes, variable.value, "default")? {
-        page.show(config, default.value)?;
-        return say_misfit(page, name, type_name.as_str());
+}
+
+/// Explains that a variable's value doesn't fit its type.
+fn explain_misfit(
+    page: &mut Page,
+    name: &str,
+    config: SourceFile<'_>,
+    variable: Member,
+) -> Result<(), AllocError> {
+    match member_named(config.bytes, variable.value, "type") {
+        Some(member) => {
+            let type_name = text_in(page.alloc, config.bytes, member.value)?;
+            say_misfit(page, name, type_name.as_str())
+        }
+        None => say_misfit(page, name, "any"),
     }
-    page.show(config, variable.name)?;
-    explain_no_value(page, name, sources)
 }
 
 /// Says that a variable's value doesn't fit its type.
@@ -235,17 +240,50 @@ fn explain_no_value(page: &mut Page, name: &str, sources: Sources<'_>) -> Result
         vars.name,
         ", or a `default`.",
     ])?;
-    let declared = names_of_section(page.alloc, sources.config.bytes, "variable")?;
     let mut nearest = Nearest::to(page.alloc, name);
-    for given in &names_in(page.alloc, vars.bytes, top(vars.bytes))? {
-        if !is_among(&declared, given.as_str()) {
-            nearest.consider(given.as_str())?;
+    consider_undeclared(&mut nearest, sources.config.bytes, vars.bytes)?;
+    match nearest.best() {
+        Some(given) => explain_mistyped(page, name, given, vars),
+        None => Ok(()),
+    }
+}
+
+/// Looks for a near name among those in a variables file that the configuration doesn't declare.
+fn consider_undeclared(
+    nearest: &mut Nearest<'_>,
+    config: &[u8],
+    vars: &[u8],
+) -> Result<(), AllocError> {
+    let alloc = nearest.alloc;
+    let mut declared: Vec<String> = Vec::new(alloc);
+    add_declared(alloc, &mut declared, config, "variable")?;
+    let mut given: Vec<String> = Vec::new(alloc);
+    add_names(alloc, &mut given, vars, top(vars))?;
+    consider_others(nearest, &given, &declared)
+}
+
+/// Considers each of some names that isn't among others.
+fn consider_others(
+    nearest: &mut Nearest<'_>,
+    names: &[String],
+    others: &[String],
+) -> Result<(), AllocError> {
+    for name in names {
+        if !others.contains(name) {
+            nearest.consider(name.as_str())?;
         }
     }
-    let Some(given) = nearest.best() else {
-        return Ok(());
-    };
-    if let Some(member) = member_named(page.alloc, vars.bytes, top(vars.bytes), given)? {
+    Ok(())
+}
+
+/// Explains that a variables file has a near name that isn't declared.
+fn explain_mistyped<'a>(
+    page: &mut Page,
+    name: &'a str,
+    given: &'a str,
+    vars: SourceFile<'_>,
+) -> Result<(), AllocError> {
+    if let Some(member) = member_named(vars.bytes, top(vars.bytes), given) {
         page.show(vars, member.name)?;
     }
     page.say(&["`", given, "` isn't declared. Did you mean `", name, "`?"])

@@ -1,13 +1,13 @@
 //! Names that need themselves, and instances that can't be counted.
 
-use crate::blocks::{block, declaration, read_address};
+use crate::blocks::{block, block_at, declaration};
 use crate::decoding::text_in;
 use crate::page::Page;
 use crate::positions::{Member, member_named};
 use crate::sources::Sources;
 use crate::span::{Span, byte_at, find_word};
-use std::alloc::{AllocError, Global};
-use tf_expr_syntax::names_of;
+use std::alloc::AllocError;
+use tf_expr_syntax::{Names, names_of};
 use tf_expr_template::read_template;
 
 /// Explains locals and resources that need themselves, each with its line.
@@ -22,7 +22,7 @@ pub(crate) fn explain_cycle(
 ) -> Result<(), AllocError> {
     let names = detail.unwrap_or("");
     for name in names.split(", ") {
-        if let Some(member) = named(page.alloc, name, sources)? {
+        if let Some(member) = named(name, sources.config.bytes) {
             page.show(sources.config, need_in(sources.config.bytes, member, names))?;
         }
     }
@@ -49,30 +49,18 @@ fn need_in(text: &[u8], member: Member, names: &str) -> Span {
 }
 
 /// Returns the declaration of a local or a resource.
-fn named(alloc: Global, name: &str, sources: Sources<'_>) -> Result<Option<Member>, AllocError> {
-    let config = sources.config.bytes;
-    match name.split_once(".") {
-        Some(("local", local)) => declaration(alloc, config, "locals", local),
-        Some((type_name, name)) => block(alloc, config, type_name, name),
-        None => Ok(None),
+fn named(name: &str, config: &[u8]) -> Option<Member> {
+    let (first, rest) = name.split_once(".")?;
+    match first {
+        "local" => declaration(config, "locals", rest),
+        _ => block(config, first, rest),
     }
 }
 
 /// Returns a property of the block that an address names.
-fn property_at(
-    alloc: Global,
-    place: &str,
-    property: &str,
-    sources: Sources<'_>,
-) -> Result<Option<Member>, AllocError> {
-    let config = sources.config.bytes;
-    let Some(address) = read_address(place) else {
-        return Ok(None);
-    };
-    match block(alloc, config, address.type_name, address.name)? {
-        Some(found) => member_named(alloc, config, found.value, property),
-        None => Ok(None),
-    }
+fn property_at(place: &str, property: &str, config: &[u8]) -> Option<Member> {
+    let found = block_at(config, place)?;
+    member_named(config, found.value, property)
 }
 
 /// Explains a `count` that is no number of instances.
@@ -86,21 +74,28 @@ pub(crate) fn explain_count(
     sources: Sources<'_>,
 ) -> Result<(), AllocError> {
     let config = sources.config;
-    let Some(count) = property_at(page.alloc, place, "count", sources)? else {
+    let Some(count) = property_at(place, "count", config.bytes) else {
         return Ok(());
     };
     page.show(config, count.value)?;
     page.say(&["`count` has to be a whole number of 0 or more."])?;
-    let text = text_in(page.alloc, config.bytes, count.value)?;
-    let is_text = byte_at(config.bytes, count.value.start) == b'"';
-    if is_text && text.parse::<u64>().is_ok() {
-        return page.say(&[
-            "A text isn't converted to a number: write ",
-            text.as_str(),
-            " without quotes.",
-        ]);
+    if byte_at(config.bytes, count.value.start) != b'"' {
+        return Ok(());
     }
-    Ok(())
+    let text = text_in(page.alloc, config.bytes, count.value)?;
+    say_unconverted(page, text.as_str())
+}
+
+/// Says that a text isn't converted to a number, if it is a number's.
+fn say_unconverted(page: &mut Page, text: &str) -> Result<(), AllocError> {
+    if text.parse::<u64>().is_err() {
+        return Ok(());
+    }
+    page.say(&[
+        "A text isn't converted to a number: write ",
+        text,
+        " without quotes.",
+    ])
 }
 
 /// Explains a `for_each` that is neither a map nor a set of texts.
@@ -114,7 +109,7 @@ pub(crate) fn explain_for_each(
     sources: Sources<'_>,
 ) -> Result<(), AllocError> {
     let config = sources.config;
-    let Some(for_each) = property_at(page.alloc, place, "for_each", sources)? else {
+    let Some(for_each) = property_at(place, "for_each", config.bytes) else {
         return Ok(());
     };
     page.show(config, for_each.value)?;
@@ -136,7 +131,7 @@ pub(crate) fn explain_unknown_instances(
     sources: Sources<'_>,
 ) -> Result<(), AllocError> {
     for property in ["count", "for_each"] {
-        if let Some(member) = property_at(page.alloc, place, property, sources)? {
+        if let Some(member) = property_at(place, property, sources.config.bytes) {
             page.show(sources.config, member.value)?;
             page.say(&[
                 "`",
@@ -156,6 +151,11 @@ fn say_resources(page: &mut Page, member: Member, sources: Sources<'_>) -> Resul
         return Ok(());
     };
     let names = names_of(page.alloc, &template)?;
+    say_references(page, &names)
+}
+
+/// Names the resources among references.
+fn say_references(page: &mut Page, names: &Names<'_>) -> Result<(), AllocError> {
     for reference in &names.references {
         let first = reference.first.as_str();
         if !matches!(first, "var" | "local" | "count" | "each") {

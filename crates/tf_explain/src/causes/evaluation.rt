@@ -7,11 +7,11 @@ use crate::causes::evaluation_terms::{
 use crate::causes::terms::add_template;
 use crate::decoding::text_in;
 use crate::page::Page;
-use crate::positions::{member_named, string_end};
+use crate::positions::{Member, member_named, string_end};
 use crate::sources::Sources;
 use crate::span::{Span, byte_at, bytes_in};
 use std::alloc::{AllocError, Global};
-use tf_expr_syntax::{Template, Term, names_of};
+use tf_expr_syntax::{Names, Reference, Template, Term, names_of};
 use tf_expr_template::read_template;
 
 /// The most expressions that are looked through for one fault.
@@ -38,7 +38,7 @@ pub(crate) fn explain_evaluation(
     kind: Option<&str>,
     sources: Sources<'_>,
 ) -> Result<(), AllocError> {
-    let Some(span) = expression_at(page.alloc, place, sources)? else {
+    let Some(span) = expression_at(place, sources) else {
         return Ok(());
     };
     let kind = kind.unwrap_or("");
@@ -46,15 +46,24 @@ pub(crate) fn explain_evaluation(
         return Ok(());
     }
     page.show(sources.config, span)?;
-    let spans = expressions_from(page.alloc, span, sources)?;
-    if spans.len() > 1 {
+    let mut spans: Vec<Span> = Vec::new(page.alloc);
+    add_expressions(page.alloc, &mut spans, span, sources)?;
+    explain_locals(page, spans.get(1..).unwrap_or(&[]), kind, sources)
+}
+
+/// Explains the faults in the locals to which an expression leads, or says only the kind of its fault.
+fn explain_locals(
+    page: &mut Page,
+    locals: &[Span],
+    kind: &str,
+    sources: Sources<'_>,
+) -> Result<(), AllocError> {
+    if !locals.is_empty() {
         page.say(&["The fault may be in a local to which this refers:"])?;
     }
     let mut is_explained = false;
-    for local in spans.iter().skip(1) {
-        if explain_expression(page, *local, kind, sources)? {
-            is_explained = true;
-        }
+    for local in locals {
+        is_explained = explain_expression(page, *local, kind, sources)? || is_explained;
     }
     if is_explained {
         return Ok(());
@@ -70,10 +79,13 @@ fn explain_expression(
     sources: Sources<'_>,
 ) -> Result<bool, AllocError> {
     let mut is_explained = false;
-    for text in &texts_in(page.alloc, sources.config.bytes, expression)? {
-        if explain_text(page, *text, kind, sources)? {
-            is_explained = true;
-        }
+    let mut at = expression.start;
+    for _ in expression.start..expression.end {
+        let Some(text) = next_text(sources.config.bytes, at, expression) else {
+            break;
+        };
+        at = text.end;
+        is_explained = explain_text(page, text, kind, sources)? || is_explained;
     }
     Ok(is_explained)
 }
@@ -93,72 +105,74 @@ fn sentence(kind: &str) -> &'static str {
 }
 
 /// Finds the expression at a place: an argument, an output's value, `count` or `for_each`.
-///
-/// # Errors
-///
-/// Fails only if memory runs out.
-pub(crate) fn expression_at(
-    alloc: Global,
-    place: &str,
-    sources: Sources<'_>,
-) -> Result<Option<Span>, AllocError> {
+fn expression_at(place: &str, sources: Sources<'_>) -> Option<Span> {
     let config = sources.config.bytes;
-    let (parent, names) = match place.strip_prefix("output.") {
-        Some(name) => (declaration(alloc, config, "output", name)?, ["value", ""]),
-        None => match read_address(place) {
-            Some(address) if address.attribute.is_empty() => {
-                let found = block(alloc, config, address.type_name, address.name)?;
-                (found, ["count", "for_each"])
-            }
-            Some(address) => {
-                let found = block(alloc, config, address.type_name, address.name)?;
-                (found, [address.attribute, ""])
-            }
-            None => (None, ["", ""]),
-        },
-    };
-    let Some(parent) = parent else {
-        return Ok(None);
-    };
+    if let Some(name) = place.strip_prefix("output.") {
+        let output = declaration(config, "output", name)?;
+        return Some(value_in(config, output, ["value", ""]));
+    }
+    let address = read_address(place)?;
+    let found = block(config, address.type_name, address.name)?;
+    if address.attribute.is_empty() {
+        return Some(value_in(config, found, ["count", "for_each"]));
+    }
+    Some(value_in(config, found, [address.attribute, ""]))
+}
+
+/// Returns where the value of the first of two properties of an object is, or else of the second, or the object's name.
+fn value_in(config: &[u8], object: Member, names: [&str; 2]) -> Span {
     for name in names {
-        if let Some(member) = member_named(alloc, config, parent.value, name)? {
-            return Ok(Some(member.value));
+        if let Some(member) = member_named(config, object.value, name) {
+            return member.value;
         }
     }
-    Ok(Some(parent.name))
+    object.name
 }
 
-/// Returns where the texts are in a range, with their quotes.
-fn texts_in(alloc: Global, text: &[u8], within: Span) -> Result<Vec<Span>, AllocError> {
-    let mut found = Vec::new(alloc);
-    let mut next = within.start;
-    for at in within.start..within.end {
-        if at >= next && byte_at(text, at) == b'"' {
-            let end = string_end(text, at);
-            next = end;
-            found.push(Span { start: at, end })?;
+/// Returns where the first text from a position on is in a range, with its quotes.
+fn next_text(text: &[u8], from: usize, within: Span) -> Option<Span> {
+    for start in from..within.end {
+        if byte_at(text, start) == b'"' {
+            let end = string_end(text, start);
+            return Some(Span { start, end });
         }
     }
-    Ok(found)
+    None
 }
 
-/// Returns where an expression is, and the locals to which it leads.
-fn expressions_from(
+/// Adds where an expression is, and the locals to which it leads.
+fn add_expressions(
     alloc: Global,
+    spans: &mut Vec<Span>,
     first: Span,
     sources: Sources<'_>,
-) -> Result<Vec<Span>, AllocError> {
-    let mut spans: Vec<Span> = Vec::new(alloc);
+) -> Result<(), AllocError> {
     spans.push(first)?;
     for number in 0..MOST_EXPRESSIONS {
         let Some(span) = spans.get(number).copied() else {
             break;
         };
-        for text in &texts_in(alloc, sources.config.bytes, span)? {
-            add_locals(alloc, &mut spans, *text, sources)?;
-        }
+        add_locals_in(alloc, spans, span, sources)?;
     }
-    Ok(spans)
+    Ok(())
+}
+
+/// Adds where the locals are to which the texts of an expression refer, if they aren't there yet.
+fn add_locals_in(
+    alloc: Global,
+    spans: &mut Vec<Span>,
+    expression: Span,
+    sources: Sources<'_>,
+) -> Result<(), AllocError> {
+    let mut at = expression.start;
+    for _ in expression.start..expression.end {
+        let Some(text) = next_text(sources.config.bytes, at, expression) else {
+            break;
+        };
+        at = text.end;
+        add_locals(alloc, spans, text, sources)?;
+    }
+    Ok(())
 }
 
 /// Adds where the locals are to which a text refers, if they aren't there yet.
@@ -168,31 +182,42 @@ fn add_locals(
     text: Span,
     sources: Sources<'_>,
 ) -> Result<(), AllocError> {
-    let Some(template) = template_at(alloc, text, sources)? else {
-        return Ok(());
-    };
-    let names = names_of(alloc, &template)?;
-    for reference in &names.references {
-        if reference.first.as_str() != "local" {
-            continue;
+    match template_at(alloc, text, sources.config.bytes)? {
+        Some(template) => {
+            let names = names_of(alloc, &template)?;
+            add_references(spans, &names, sources.config.bytes)
         }
-        let name = reference.name.as_str();
-        if let Some(local) = declaration(alloc, sources.config.bytes, "locals", name)? {
-            if !spans.contains(&local.value) && spans.len() < MOST_EXPRESSIONS {
-                spans.push(local.value)?;
-            }
+        None => Ok(()),
+    }
+}
+
+/// Adds where the locals are to which references refer, if they aren't there yet.
+fn add_references(
+    spans: &mut Vec<Span>,
+    names: &Names<'_>,
+    config: &[u8],
+) -> Result<(), AllocError> {
+    for reference in &names.references {
+        let Some(local) = local_of(*reference, config) else {
+            continue;
+        };
+        if !spans.contains(&local.value) && spans.len() < MOST_EXPRESSIONS {
+            spans.push(local.value)?;
         }
     }
     Ok(())
 }
 
+/// Returns the local to which a reference refers.
+fn local_of(reference: &Reference, config: &[u8]) -> Option<Member> {
+    if reference.first.as_str() != "local" {
+        return None;
+    }
+    declaration(config, "locals", reference.name.as_str())
+}
+
 /// Returns the template of a text in the configuration, if it has an interpolation.
-pub(crate) fn template_at(
-    alloc: Global,
-    text: Span,
-    sources: Sources<'_>,
-) -> Result<Option<Template>, AllocError> {
-    let config = sources.config.bytes;
+fn template_at(alloc: Global, text: Span, config: &[u8]) -> Result<Option<Template>, AllocError> {
     if !bytes_in(config, text).contains(&b'{') {
         return Ok(None);
     }
@@ -207,31 +232,42 @@ fn explain_text(
     kind: &str,
     sources: Sources<'_>,
 ) -> Result<bool, AllocError> {
-    let Some(template) = template_at(page.alloc, span, sources)? else {
-        return Ok(false);
-    };
-    let mut terms: Vec<&Term> = Vec::new(page.alloc);
-    add_template(&template, &mut terms)?;
-    if explain_terms(page, span, kind, terms.as_slice(), sources)? {
+    match template_at(page.alloc, span, sources.config.bytes)? {
+        Some(template) => explain_template(page, span, kind, &template, sources),
+        None => Ok(false),
+    }
+}
+
+/// Explains a fault in a template. Returns whether it found one.
+fn explain_template(
+    page: &mut Page,
+    span: Span,
+    kind: &str,
+    template: &Template,
+    sources: Sources<'_>,
+) -> Result<bool, AllocError> {
+    if explain_terms(page, span, kind, template, sources)? {
         return Ok(true);
     }
     if kind != "WrongKind" {
         return Ok(false);
     }
-    explain_joined(page, span, &template, sources)
+    explain_joined(page, span, template, sources)
 }
 
-/// Explains a fault in the parts of a text. Returns whether it found one.
-fn explain_terms<'a>(
+/// Explains a fault in the parts of a template's expressions. Returns whether it found one.
+fn explain_terms(
     page: &mut Page,
     span: Span,
     kind: &str,
-    terms: &'a [&'a Term],
+    template: &Template,
     sources: Sources<'_>,
 ) -> Result<bool, AllocError> {
+    let mut terms: Vec<&Term> = Vec::new(page.alloc);
+    add_template(template, &mut terms)?;
     let text = ReadText {
         span,
-        terms,
+        terms: terms.as_slice(),
         sources,
     };
     match kind {

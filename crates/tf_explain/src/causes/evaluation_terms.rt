@@ -1,13 +1,13 @@
 //! Which part of an expression has no value.
 
-use crate::blocks::{block, block_has, declaration, names_in};
+use crate::blocks::{block, block_has, consider_members, declaration};
 use crate::causes::evaluation::ReadText;
 use crate::near::Nearest;
 use crate::page::Page;
-use crate::positions::{items, member_named, top};
+use crate::positions::{Member, is_comment, items, member_named, top};
 use crate::sources::{SourceFile, Sources};
-use crate::span::{Span, byte_at, find_bytes, find_word};
-use std::alloc::{AllocError, Global};
+use crate::span::{Span, byte_at, find_bytes};
+use std::alloc::AllocError;
 use tf_expr_syntax::{Function, Operator, Reference, Template, Term};
 use tf_provider_protocol::{Schema, schema_for};
 
@@ -54,8 +54,7 @@ fn missing_attribute<'a>(
     let type_name = reference.first.as_str();
     match schema_for(text.sources.providers, type_name) {
         Some(schema) if schema.attribute(name).is_none() => {
-            let wanted = format!(in page.alloc; ".{name}")?;
-            show_part(page, text, wanted.as_str())?;
+            show_attribute(page, text, name)?;
             say_attribute(page, type_name, name, schema)?;
             Ok(true)
         }
@@ -79,15 +78,16 @@ pub(crate) fn say_attribute<'a>(
     for attribute in schema.attributes() {
         nearest.consider(attribute.name.as_str())?;
     }
-    let suggestion = nearest.suggestion()?;
-    page.say(&[
-        "The type `",
-        type_name,
-        "` has no attribute `",
-        name,
-        "`.",
-        suggestion.as_str(),
-    ])
+    page.suggest(
+        &["The type `", type_name, "` has no attribute `", name, "`."],
+        &nearest,
+    )
+}
+
+/// Shows an attribute's name in a text after its dot, or all of the text.
+fn show_attribute(page: &mut Page, text: ReadText<'_, '_>, name: &str) -> Result<(), AllocError> {
+    let wanted = format!(in page.alloc; ".{name}")?;
+    show_part(page, text, wanted.as_str())
 }
 
 /// Shows a part of a text, or all of it.
@@ -114,33 +114,35 @@ fn missing_element<'a>(
 }
 
 /// Returns the value that a variable or a local has as JSON: its file and its range.
-fn value_of<'a>(
-    alloc: Global,
-    term: &Term,
-    sources: Sources<'a>,
-) -> Result<Option<(SourceFile<'a>, Span)>, AllocError> {
+fn value_of<'a>(term: &Term, sources: Sources<'a>) -> Option<(SourceFile<'a>, Span)> {
     let Term::Reference(reference) = term else {
-        return Ok(None);
+        return None;
     };
     let name = reference.name.as_str();
-    let config = sources.config;
-    if reference.first.as_str() == "local" {
-        let found = declaration(alloc, config.bytes, "locals", name)?;
-        return Ok(found.map(|member| (config, member.value)));
+    match reference.first.as_str() {
+        "local" => {
+            let local = declaration(sources.config.bytes, "locals", name)?;
+            Some((sources.config, local.value))
+        }
+        "var" => value_of_variable(name, sources),
+        _ => None,
     }
-    if reference.first.as_str() != "var" {
-        return Ok(None);
-    }
+}
+
+/// Returns the value of a variable as JSON, in the variables file or else as its default: its file and its range.
+pub(crate) fn value_of_variable<'a>(
+    name: &str,
+    sources: Sources<'a>,
+) -> Option<(SourceFile<'a>, Span)> {
     if let Some(vars) = sources.vars {
-        if let Some(member) = member_named(alloc, vars.bytes, top(vars.bytes), name)? {
-            return Ok(Some((vars, member.value)));
+        if let Some(given) = member_named(vars.bytes, top(vars.bytes), name) {
+            return Some((vars, given.value));
         }
     }
-    let Some(variable) = declaration(alloc, config.bytes, "variable", name)? else {
-        return Ok(None);
-    };
-    let default = member_named(alloc, config.bytes, variable.value, "default")?;
-    Ok(default.map(|member| (config, member.value)))
+    let config = sources.config;
+    let variable = declaration(config.bytes, "variable", name)?;
+    let default = member_named(config.bytes, variable.value, "default")?;
+    Some((config, default.value))
 }
 
 /// Explains an index beyond a list that is written out.
@@ -150,7 +152,7 @@ fn missing_index(
     inner: &Term,
     index: u64,
 ) -> Result<bool, AllocError> {
-    let Some((file, span)) = value_of(page.alloc, inner, text.sources)? else {
+    let Some((file, span)) = value_of(inner, text.sources) else {
         return Ok(false);
     };
     if byte_at(file.bytes, span.start) != b'[' {
@@ -160,14 +162,24 @@ fn missing_index(
     if index < count {
         return Ok(false);
     }
+    show_index(page, text, index)?;
+    say_index(page, count, index)?;
+    page.show(file, span)?;
+    Ok(true)
+}
+
+/// Shows an index in a text, or all of it.
+fn show_index(page: &mut Page, text: ReadText<'_, '_>, index: u64) -> Result<(), AllocError> {
     let wanted = format!(in page.alloc; "[{index}]")?;
-    show_part(page, text, wanted.as_str())?;
+    show_part(page, text, wanted.as_str())
+}
+
+/// Says that a list has too few elements for an index.
+fn say_index(page: &mut Page, count: u64, index: u64) -> Result<(), AllocError> {
     let sentence = format!(in page.alloc;
         "The list has {count} elements, counted from 0, so there is no [{index}]:"
     )?;
-    page.say(&[sentence.as_str()])?;
-    page.show(file, span)?;
-    Ok(true)
+    page.say(&[sentence.as_str()])
 }
 
 /// Explains a key that a map that is written out doesn't have.
@@ -177,24 +189,32 @@ fn missing_key(
     inner: &Term,
     key: &str,
 ) -> Result<bool, AllocError> {
-    let Some((file, span)) = value_of(page.alloc, inner, text.sources)? else {
+    let Some((file, map)) = value_of(inner, text.sources) else {
         return Ok(false);
     };
-    if byte_at(file.bytes, span.start) != b'{' {
+    let is_map = byte_at(file.bytes, map.start) == b'{';
+    if !is_map || has_key(file.bytes, map, key) {
         return Ok(false);
     }
-    let mut nearest = Nearest::to(page.alloc, key);
-    for name in &names_in(page.alloc, file.bytes, span)? {
-        if name.as_str() == key {
-            return Ok(false);
-        }
-        nearest.consider(name.as_str())?;
-    }
     show_part(page, text, key)?;
-    let suggestion = nearest.suggestion()?;
-    page.say(&["The map has no key `", key, "`.", suggestion.as_str()])?;
-    page.show(file, span)?;
+    say_key(page, file, map, key)?;
+    page.show(file, map)?;
     Ok(true)
+}
+
+/// Returns whether a map has a key. A comment is none.
+fn has_key(text: &[u8], map: Span, key: &str) -> bool {
+    match member_named(text, map, key) {
+        Some(member) => !is_comment(text, member),
+        None => false,
+    }
+}
+
+/// Says that a map has no key, with the nearest one.
+fn say_key(page: &mut Page, file: SourceFile<'_>, map: Span, key: &str) -> Result<(), AllocError> {
+    let mut nearest = Nearest::to(page.alloc, key);
+    consider_members(&mut nearest, file.bytes, map, "")?;
+    page.suggest(&["The map has no key `", key, "`."], &nearest)
 }
 
 /// Explains functions with a wrong number of arguments. Returns whether it found one.
@@ -214,21 +234,23 @@ pub(crate) fn explain_arity(page: &mut Page, text: ReadText<'_, '_>) -> Result<b
         };
         let count = arguments.len();
         if !function.takes(count) {
-            show_word(page, text, name)?;
-            let takes = takes(function);
-            let sentence = format!(in page.alloc; "`{name}` takes {takes}, and has {count} here.")?;
-            page.say(&[sentence.as_str()])?;
+            page.show_word(text.sources.config, text.span, name)?;
+            say_arity(page, name, takes(function), count)?;
             is_found = true;
         }
     }
     Ok(is_found)
 }
 
-/// Shows a word of a text, or all of it.
-fn show_word(page: &mut Page, text: ReadText<'_, '_>, word: &str) -> Result<(), AllocError> {
-    let config = text.sources.config;
-    let span = find_word(config.bytes, text.span, word).unwrap_or(text.span);
-    page.show(config, span)
+/// Says how many arguments a function takes, and how many it has.
+fn say_arity<'a>(
+    page: &mut Page,
+    name: &'a str,
+    takes: &'a str,
+    count: usize,
+) -> Result<(), AllocError> {
+    let sentence = format!(in page.alloc; "`{name}` takes {takes}, and has {count} here.")?;
+    page.say(&[sentence.as_str()])
 }
 
 /// Returns how many arguments a function takes.
@@ -304,7 +326,7 @@ fn is_alone(template: &Template) -> bool {
 
 /// Shows the value of a variable or a local, if it can't be part of a text.
 fn show_joined(page: &mut Page, term: &Term, sources: Sources<'_>) -> Result<(), AllocError> {
-    let Some((file, span)) = value_of(page.alloc, term, sources)? else {
+    let Some((file, span)) = value_of(term, sources) else {
         return Ok(());
     };
     match byte_at(file.bytes, span.start) {
@@ -327,52 +349,81 @@ fn instances_mistaken(
     let Term::Reference(reference) = inner else {
         return Ok(false);
     };
+    let config = text.sources.config;
     let (first, name) = (reference.first.as_str(), reference.name.as_str());
-    let config = text.sources.config.bytes;
-    let Some(block) = block(page.alloc, config, first, name)? else {
+    let Some(block) = block(config.bytes, first, name) else {
         return Ok(false);
     };
-    let has_count = block_has(page.alloc, config, block, "count")?;
-    let has_for_each = block_has(page.alloc, config, block, "for_each")?;
-    if is_index == (has_count || has_for_each) {
+    let instances = Instances::of(config.bytes, block);
+    if is_index == instances.are_many() {
         return Ok(false);
     }
     let address = format!(in page.alloc; "{first}.{name}")?;
-    show_word(page, text, address.as_str())?;
-    say_instances(page, address.as_str(), has_count, has_for_each)?;
+    say_mistaken(page, text, address.as_str(), instances)
+}
+
+/// How a block has instances.
+#[derive(Clone, Copy)]
+enum Instances {
+    Count,
+    ForEach,
+    /// One instance, without an index.
+    One,
+}
+
+impl Instances {
+    /// Returns how a block has instances.
+    fn of(config: &[u8], block: Member) -> Instances {
+        if block_has(config, block, "count") {
+            Instances::Count
+        } else if block_has(config, block, "for_each") {
+            Instances::ForEach
+        } else {
+            Instances::One
+        }
+    }
+
+    /// Returns whether an instance is chosen by an index.
+    fn are_many(self) -> bool {
+        !matches!(self, Instances::One)
+    }
+}
+
+/// Explains how the instances of a resource are used. Returns true.
+fn say_mistaken(
+    page: &mut Page,
+    text: ReadText<'_, '_>,
+    address: &str,
+    instances: Instances,
+) -> Result<bool, AllocError> {
+    page.show_word(text.sources.config, text.span, address)?;
+    say_instances(page, address, instances)?;
     Ok(true)
 }
 
 /// Says how the instances of a resource are used.
-fn say_instances(
-    page: &mut Page,
-    address: &str,
-    has_count: bool,
-    has_for_each: bool,
-) -> Result<(), AllocError> {
-    if has_count {
-        return page.say(&[
+fn say_instances(page: &mut Page, address: &str, instances: Instances) -> Result<(), AllocError> {
+    match instances {
+        Instances::Count => page.say(&[
             "`",
             address,
             "` has `count`, so it is a list of objects. Choose one, as in ",
             address,
             "[0].",
-        ]);
-    }
-    if has_for_each {
-        return page.say(&[
+        ]),
+        Instances::ForEach => page.say(&[
             "`",
             address,
             "` has `for_each`, so it is a map of objects. Choose one, as in ",
             address,
             "[\"KEY\"].",
-        ]);
+        ]),
+        Instances::One => page.say(&[
+            "`",
+            address,
+            "` has neither `count` nor `for_each`, so it is one object: leave the index out.",
+        ]),
     }
-    page.say(&[
-        "`",
-        address,
-        "` has neither `count` nor `for_each`, so it is one object: leave the index out.",
-    ])
 }
 
 /// Returns which values a part of an expression takes.

@@ -4,9 +4,9 @@ use crate::json_fault::{JsonFault, JsonFaultKind, json_fault};
 use crate::page::Page;
 use crate::positions::is_space;
 use crate::sources::SourceFile;
-use crate::span::{Span, byte_at};
+use crate::span::{byte_at, byte_span};
 use serde_json::Value;
-use std::alloc::AllocError;
+use std::alloc::{AllocError, Global};
 
 /// Explains why a file isn't JSON. Explains nothing if it is. The last argument is said of a file in another syntax.
 ///
@@ -38,14 +38,8 @@ fn explain_end(page: &mut Page, file: SourceFile<'_>, fault: JsonFault) -> Resul
     if end == 0 {
         return page.say(&["The file is empty."]);
     }
-    page.show(
-        file,
-        Span {
-            start: end,
-            end: end.saturating_add(1),
-        },
-    )?;
-    page.say(&["The file ends here, before its JSON is complete."])?;
+    page.show(file, byte_span(end))?;
+    page.say(&[sentence(JsonFaultKind::Ends)])?;
     match fault.open {
         Some(open) => {
             page.show(file, open)?;
@@ -68,26 +62,25 @@ fn end_of(text: &[u8]) -> usize {
 
 /// Explains what `serde_json` refuses in a file whose tokens are JSON: a number that is too large.
 fn explain_number(page: &mut Page, file: SourceFile<'_>) -> Result<(), AllocError> {
-    let Err(error) = Value::from_slice(page.alloc, file.bytes) else {
+    let Some(at) = refused_at(page.alloc, file.bytes)? else {
         return Ok(());
     };
-    if error.is_memory() {
-        return Err(AllocError);
-    }
-    let at = position_of(file.bytes, error.line(), error.column());
-    page.show(
-        file,
-        Span {
-            start: at,
-            end: at.saturating_add(1),
-        },
-    )?;
+    page.show(file, byte_span(at))?;
     let is_number = byte_at(file.bytes, at).is_ascii_digit();
     page.say(&[if is_number {
         "A number that ends here is too large."
     } else {
         sentence(JsonFaultKind::Other)
     }])
+}
+
+/// Returns where `serde_json` refuses a text, if it does.
+fn refused_at(alloc: Global, text: &[u8]) -> Result<Option<usize>, AllocError> {
+    match Value::from_slice(alloc, text) {
+        Ok(_) => Ok(None),
+        Err(error) if error.is_memory() => Err(AllocError),
+        Err(error) => Ok(Some(position_of(text, error.line(), error.column()))),
+    }
 }
 
 /// Returns the position of a line and a column, which are counted from 1. Columns count bytes.

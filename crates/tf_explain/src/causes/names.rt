@@ -1,13 +1,13 @@
 //! Names that aren't declared.
 
-use crate::blocks::{addresses, block, block_has, declaration, names_of_section};
+use crate::blocks::{block, block_has, consider_addresses, consider_members, declaration, section};
 use crate::decoding::text_in;
-use crate::near::{Nearest, suggestion_among};
+use crate::near::Nearest;
 use crate::page::Page;
-use crate::positions::{Member, find};
-use crate::sources::Sources;
-use crate::span::{Span, find_word};
-use std::alloc::{AllocError, Global};
+use crate::positions::{Found, Member, find};
+use crate::sources::{SourceFile, Sources};
+use crate::span::Span;
+use std::alloc::AllocError;
 use tf_expr_syntax::{Function, Names, Reference, names_of};
 use tf_expr_template::read_template;
 
@@ -23,7 +23,7 @@ struct Use<'p, 's> {
     place: &'p str,
     /// Where it is in the configuration.
     span: Span,
-    sources: Sources<'s>,
+    config: SourceFile<'s>,
 }
 
 /// Explains each name in the text at a place that isn't known there.
@@ -41,246 +41,222 @@ pub(crate) fn explain_names(
     if !found.rest.is_empty() {
         return Ok(());
     }
-    let text = text_in(page.alloc, config.bytes, found.value)?;
     let used = Use {
         place,
         span: found.value,
-        sources,
+        config,
     };
+    let text = text_in(page.alloc, config.bytes, found.value)?;
     if place.contains(".depends_on.") && place.starts_with("resource.") {
-        page.show(config, found.value)?;
-        return explain_address(page, text.as_str(), config.bytes);
+        explain_dependency(page, used, text.as_str())
+    } else {
+        explain_text(page, used, found, text.as_str())
     }
-    let Ok(template) = read_template(page.alloc, text.as_str()) else {
-        return page.show(config, found.value);
-    };
-    let names = names_of(page.alloc, &template)?;
-    explain_references(page, used, &names)?;
-    explain_functions(page, used, &names)?;
-    page.note_earlier(config, found)
 }
 
-/// Explains each reference that isn't known, once.
-fn explain_references(
+/// Explains an element of `depends_on`.
+fn explain_dependency(page: &mut Page, used: Use<'_, '_>, address: &str) -> Result<(), AllocError> {
+    page.show(used.config, used.span)?;
+    say_address(page, address, used.config)
+}
+
+/// Explains each name in a text that isn't known there.
+fn explain_text(
     page: &mut Page,
     used: Use<'_, '_>,
-    names: &Names<'_>,
+    found: Found<'_>,
+    text: &str,
 ) -> Result<(), AllocError> {
-    let mut seen: Vec<String> = Vec::new(page.alloc);
-    for reference in &names.references {
-        let first = reference.first.as_str();
-        let name = reference.name.as_str();
-        let text = format!(in page.alloc; "{first}.{name}")?;
-        if !is_among(&seen, text.as_str()) {
-            explain_reference(page, used, *reference, text.as_str())?;
-            seen.push(text)?;
-        }
-    }
-    Ok(())
+    let Ok(template) = read_template(page.alloc, text) else {
+        return page.show(used.config, used.span);
+    };
+    let names = names_of(page.alloc, &template)?;
+    explain_all(page, used, found, &names)
 }
 
-/// Returns whether a text is among some.
-pub(crate) fn is_among(texts: &[String], wanted: &str) -> bool {
-    for text in texts {
-        if text.as_str() == wanted {
+/// Explains each reference and each function that isn't known, once.
+fn explain_all(
+    page: &mut Page,
+    used: Use<'_, '_>,
+    found: Found<'_>,
+    names: &Names<'_>,
+) -> Result<(), AllocError> {
+    for (number, reference) in names.references.iter().enumerate() {
+        if !is_earlier(names, number, *reference) && !is_known(used, *reference) {
+            explain_reference(page, used, *reference)?;
+        }
+    }
+    for (number, function) in names.functions.iter().enumerate() {
+        let name = function.as_str();
+        if Function::named(name).is_none() && !is_called_earlier(names, number, name) {
+            explain_function(page, used, name)?;
+        }
+    }
+    page.note_earlier(used.config, found)
+}
+
+/// Returns whether one of the given number of first references is the same as another.
+fn is_earlier(names: &Names<'_>, number: usize, wanted: &Reference) -> bool {
+    for reference in names.references.iter().take(number) {
+        if reference.first == wanted.first && reference.name == wanted.name {
             return true;
         }
     }
     false
 }
 
-/// Explains a reference if it isn't known.
-fn explain_reference<'a>(
+/// Returns whether one of the given number of first functions has a name.
+fn is_called_earlier(names: &Names<'_>, number: usize, wanted: &str) -> bool {
+    for function in names.functions.iter().take(number) {
+        if function.as_str() == wanted {
+            return true;
+        }
+    }
+    false
+}
+
+/// Returns whether a reference is known at its place.
+fn is_known(used: Use<'_, '_>, reference: &Reference) -> bool {
+    let config = used.config.bytes;
+    let name = reference.name.as_str();
+    match reference.first.as_str() {
+        "var" => declaration(config, "variable", name).is_some(),
+        "local" => declaration(config, "locals", name).is_some(),
+        "count" => is_of_count(name) && is_iterated(used, "count"),
+        "each" => is_of_each(name) && is_iterated(used, "for_each"),
+        "data" | "module" | "path" | "self" | "terraform" => false,
+        first => block(config, first, name).is_some(),
+    }
+}
+
+/// Returns whether a name may follow `count.`.
+fn is_of_count(name: &str) -> bool {
+    name == "index"
+}
+
+/// Returns whether a name may follow `each.`.
+fn is_of_each(name: &str) -> bool {
+    name == "key" || name == "value"
+}
+
+/// Explains a reference that isn't known.
+fn explain_reference(
     page: &mut Page,
     used: Use<'_, '_>,
+    reference: &Reference,
+) -> Result<(), AllocError> {
+    let first = reference.first.as_str();
+    let name = reference.name.as_str();
+    let text = format!(in page.alloc; "{first}.{name}")?;
+    page.show_word(used.config, used.span, text.as_str())?;
+    say_unknown(page, used.config, reference, text.as_str())
+}
+
+/// Says why a reference isn't known.
+fn say_unknown<'a>(
+    page: &mut Page,
+    config: SourceFile<'_>,
     reference: &'a Reference,
     text: &'a str,
 ) -> Result<(), AllocError> {
-    let config = used.sources.config.bytes;
     let name = reference.name.as_str();
     match reference.first.as_str() {
-        "var" => match declaration(page.alloc, config, "variable", name)? {
-            Some(_) => Ok(()),
-            None => explain_undeclared(page, used, "variable", "var", name),
-        },
-        "local" => match declaration(page.alloc, config, "locals", name)? {
-            Some(_) => Ok(()),
-            None => explain_undeclared(page, used, "locals", "local", name),
-        },
-        "count" => explain_iteration(page, used, text, "count", name == "index"),
-        "each" => explain_iteration(
-            page,
-            used,
-            text,
-            "for_each",
-            name == "key" || name == "value",
-        ),
+        "var" => say_undeclared(page, config, "variable", "var.", text),
+        "local" => say_undeclared(page, config, "locals", "local.", text),
+        "count" => say_iteration(page, text, "count", is_of_count(name)),
+        "each" => say_iteration(page, text, "for_each", is_of_each(name)),
         "data" | "module" | "path" | "self" | "terraform" => {
-            show_word(page, used, text)?;
             page.say(&["`", text, "` isn't supported here (docs/DIFFERENCES.md)."])
         }
-        first => match block(page.alloc, config, first, name)? {
-            Some(_) => Ok(()),
-            None => {
-                show_word(page, used, text)?;
-                explain_address(page, text, config)
-            }
-        },
+        _ => say_address(page, text, config),
     }
 }
 
-/// Shows a word of a text, or the whole text if the word isn't found in it.
-fn show_word(page: &mut Page, used: Use<'_, '_>, word: &str) -> Result<(), AllocError> {
-    let config = used.sources.config;
-    let span = find_word(config.bytes, used.span, word).unwrap_or(used.span);
-    page.show(config, span)
-}
-
-/// Explains that a variable or a local isn't declared.
-fn explain_undeclared<'a>(
+/// Says that a variable or a local isn't declared, with the nearest one. The text is its name after a prefix.
+fn say_undeclared<'a>(
     page: &mut Page,
-    used: Use<'_, '_>,
+    config: SourceFile<'_>,
     section_name: &'a str,
-    first: &'a str,
-    name: &'a str,
+    prefix: &'a str,
+    text: &'a str,
 ) -> Result<(), AllocError> {
-    let alloc = page.alloc;
-    let text = format!(in alloc; "{first}.{name}")?;
-    show_word(page, used, text.as_str())?;
-    let mut nearest = Nearest::to(alloc, text.as_str());
-    for declared in &names_of_section(alloc, used.sources.config.bytes, section_name)? {
-        let declared = declared.as_str();
-        let candidate = format!(in alloc; "{first}.{declared}")?;
-        nearest.consider(candidate.as_str())?;
+    let mut nearest = Nearest::to(page.alloc, text);
+    if let Some(declared) = section(config.bytes, section_name) {
+        consider_members(&mut nearest, config.bytes, declared.value, prefix)?;
     }
-    let suggestion = nearest.suggestion()?;
-    page.say(&[
-        "`",
-        text.as_str(),
-        "` is not declared.",
-        suggestion.as_str(),
-    ])?;
-    if suggestion.is_empty() {
-        return page.say(&[
-            "A declaration is \"",
-            section_name,
-            "\": {\"",
-            name,
-            "\": ..}.",
-        ]);
-    }
-    Ok(())
-}
-
-/// Explains that no resource has an address, with the nearest one.
-fn explain_address(page: &mut Page, text: &str, config: &[u8]) -> Result<(), AllocError> {
-    let alloc = page.alloc;
-    let mut nearest = Nearest::to(alloc, text);
-    for address in &addresses(alloc, config)? {
-        nearest.consider(address.as_str())?;
-    }
-    for prefix in ["var", "local"] {
-        consider_prefix(&mut nearest, alloc, text, prefix)?;
-    }
-    let suggestion = nearest.suggestion()?;
-    page.say(&["`", text, "` is not declared.", suggestion.as_str()])
-}
-
-/// Considers the same name after another first word, such as `var.x` for `vars.x`.
-fn consider_prefix(
-    nearest: &mut Nearest<'_>,
-    alloc: Global,
-    text: &str,
-    prefix: &str,
-) -> Result<(), AllocError> {
-    let Some((_, name)) = text.split_once(".") else {
+    page.suggest(&["`", text, "` is not declared."], &nearest)?;
+    if nearest.best().is_some() {
         return Ok(());
-    };
-    let candidate = format!(in alloc; "{prefix}.{name}")?;
-    nearest.consider(candidate.as_str())
+    }
+    let name = text.strip_prefix(prefix).unwrap_or(text);
+    page.say(&[
+        "A declaration is \"",
+        section_name,
+        "\": {\"",
+        name,
+        "\": ..}.",
+    ])
 }
 
-/// Explains `count.index`, `each.key` or `each.value`, if it isn't known at its place.
-fn explain_iteration<'a>(
+/// Says that no resource has an address, with the nearest one.
+fn say_address(page: &mut Page, text: &str, config: SourceFile<'_>) -> Result<(), AllocError> {
+    let mut nearest = Nearest::to(page.alloc, text);
+    consider_addresses(&mut nearest, config.bytes)?;
+    if let Some((_, name)) = text.split_once(".") {
+        nearest.consider_after("var.", name)?;
+        nearest.consider_after("local.", name)?;
+    }
+    page.suggest(&["`", text, "` is not declared."], &nearest)
+}
+
+/// Says why `count.index`, `each.key` or `each.value` isn't known at its place, or that there is no such name.
+fn say_iteration<'a>(
     page: &mut Page,
-    used: Use<'_, '_>,
     text: &'a str,
     property: &'a str,
     exists: bool,
 ) -> Result<(), AllocError> {
-    if exists && is_iterated(page.alloc, used, property)? {
-        return Ok(());
-    }
-    show_word(page, used, text)?;
-    if !exists {
+    if exists {
         return page.say(&[
             "`",
             text,
-            "` isn't known. There are count.index, each.key and each.value.",
+            "` is known only in the arguments of a block with `",
+            property,
+            "`.",
         ]);
     }
     page.say(&[
         "`",
         text,
-        "` is known only in the arguments of a block with `",
-        property,
-        "`.",
+        "` isn't known. There are count.index, each.key and each.value.",
     ])
 }
 
 /// Returns whether a place is in an argument of a block that has `count` or `for_each`.
-fn is_iterated(alloc: Global, used: Use<'_, '_>, property: &str) -> Result<bool, AllocError> {
-    let Some((block, argument)) = block_at(alloc, used)? else {
-        return Ok(false);
-    };
-    let is_argument = !matches!(argument, "count" | "for_each" | "depends_on" | "lifecycle");
-    Ok(is_argument && block_has(alloc, used.sources.config.bytes, block, property)?)
+fn is_iterated(used: Use<'_, '_>, property: &str) -> bool {
+    match argument_at(used) {
+        Some((_, "count" | "for_each" | "depends_on" | "lifecycle")) | None => false,
+        Some((block, _)) => block_has(used.config.bytes, block, property),
+    }
 }
 
 /// Returns the block in which a place is, and the name of the property.
-fn block_at<'p>(alloc: Global, used: Use<'p, '_>) -> Result<Option<(Member, &'p str)>, AllocError> {
-    let Some(rest) = used.place.strip_prefix("resource.") else {
-        return Ok(None);
-    };
-    let Some((type_name, rest)) = rest.split_once(".") else {
-        return Ok(None);
-    };
-    let Some((name, rest)) = rest.split_once(".") else {
-        return Ok(None);
-    };
+fn argument_at<'p>(used: Use<'p, '_>) -> Option<(Member, &'p str)> {
+    let rest = used.place.strip_prefix("resource.")?;
+    let (type_name, rest) = rest.split_once(".")?;
+    let (name, rest) = rest.split_once(".")?;
     let (argument, _) = rest.split_once(".").unwrap_or((rest, ""));
-    match block(alloc, used.sources.config.bytes, type_name, name)? {
-        Some(found) => Ok(Some((found, argument))),
-        None => Ok(None),
-    }
-}
-
-/// Explains each function that doesn't exist, once.
-fn explain_functions(
-    page: &mut Page,
-    used: Use<'_, '_>,
-    names: &Names<'_>,
-) -> Result<(), AllocError> {
-    let mut seen: Vec<String> = Vec::new(page.alloc);
-    for function in &names.functions {
-        let name = function.as_str();
-        if Function::named(name).is_none() && !is_among(&seen, name) {
-            explain_function(page, used, name)?;
-            seen.push(String::from_str(page.alloc, name)?)?;
-        }
-    }
-    Ok(())
+    let found = block(used.config.bytes, type_name, name)?;
+    Some((found, argument))
 }
 
 /// Explains that a function doesn't exist.
 fn explain_function(page: &mut Page, used: Use<'_, '_>, name: &str) -> Result<(), AllocError> {
-    show_word(page, used, name)?;
-    let suggestion = suggestion_among(page.alloc, name, &FUNCTIONS)?;
-    page.say(&[
-        "There is no function `",
+    page.show_word(used.config, used.span, name)?;
+    page.suggest_among(
+        &["There is no function `", name, "` here."],
         name,
-        "` here.",
-        suggestion.as_str(),
-    ])?;
+        &FUNCTIONS,
+    )?;
     page.say(&["The functions are length, keys, values, merge, concat, join and toset."])
 }

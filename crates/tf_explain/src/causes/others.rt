@@ -1,17 +1,18 @@
 //! Types, states, limits and diagnostics.
 
 use crate::blocks::{
-    Address, addresses, block, declaration, names_of_section, read_address, resource_type,
+    Address, block_at, block_count, declaration, declared_count, lifecycle_setting, read_address,
+    resource_type,
 };
 use crate::causes::json::explain_json;
-use crate::decoding::text_in;
+use crate::decoding::is_text;
 use crate::json_fault::json_fault;
 use crate::line::ErrorLine;
 use crate::near::Nearest;
 use crate::page::Page;
 use crate::positions::{Member, find, items, member_named, top};
 use crate::sources::{SourceFile, Sources};
-use crate::span::{Span, bytes_in};
+use crate::span::{Span, bytes_in, first_byte};
 use std::alloc::{AllocError, Global};
 use tf_provider_protocol::schema_for;
 
@@ -39,30 +40,26 @@ pub(crate) fn explain_no_provider(
     };
     let type_name = address.type_name;
     let config = sources.config;
-    let found = resource_type(page.alloc, config.bytes, type_name)?;
-    if let Some(member) = found {
-        page.show(config, member.name)?;
-    }
-    if found.is_none() {
+    let Some(found) = resource_type(config.bytes, type_name) else {
         return page.say(&[
             "The state has an object of the type `",
             type_name,
             "`, and no provider has this type.",
         ]);
-    }
+    };
+    page.show(config, found.name)?;
+    say_type(page, type_name, sources)
+}
+
+/// Says that no provider has a type, with the nearest one.
+fn say_type(page: &mut Page, type_name: &str, sources: Sources<'_>) -> Result<(), AllocError> {
     let mut nearest = Nearest::to(page.alloc, type_name);
     for known in TYPES {
         if schema_for(sources.providers, known).is_some() {
             nearest.consider(known)?;
         }
     }
-    let suggestion = nearest.suggestion()?;
-    page.say(&[
-        "No provider has the type `",
-        type_name,
-        "`.",
-        suggestion.as_str(),
-    ])
+    page.suggest(&["No provider has the type `", type_name, "`."], &nearest)
 }
 
 /// Explains that an object may not be destroyed.
@@ -75,37 +72,15 @@ pub(crate) fn explain_prevented(
     place: &str,
     sources: Sources<'_>,
 ) -> Result<(), AllocError> {
-    if let Some(found) = block_at(page.alloc, place, sources)? {
-        let span = prevention_at(page.alloc, sources.config.bytes, found)?;
-        page.show(sources.config, span)?;
+    let config = sources.config;
+    if let Some(found) = block_at(config.bytes, place) {
+        let setting = lifecycle_setting(config.bytes, found, "prevent_destroy");
+        page.show(config, setting.unwrap_or(found).name)?;
     }
     page.say(&[
         "The plan would destroy or replace this object, and `prevent_destroy` forbids it.",
     ])?;
     page.say(&["Undo the change that replaces it, or remove `prevent_destroy`."])
-}
-
-/// Returns where `prevent_destroy` is in a block, or its name.
-fn prevention_at(alloc: Global, text: &[u8], block: Member) -> Result<Span, AllocError> {
-    let Some(lifecycle) = member_named(alloc, text, block.value, "lifecycle")? else {
-        return Ok(block.name);
-    };
-    match member_named(alloc, text, lifecycle.value, "prevent_destroy")? {
-        Some(member) => Ok(member.name),
-        None => Ok(block.name),
-    }
-}
-
-/// Returns the block that an address names.
-fn block_at(
-    alloc: Global,
-    place: &str,
-    sources: Sources<'_>,
-) -> Result<Option<Member>, AllocError> {
-    match read_address(place) {
-        Some(address) => block(alloc, sources.config.bytes, address.type_name, address.name),
-        None => Ok(None),
-    }
 }
 
 /// Explains a state that is none, or an object in it that doesn't fit its type.
@@ -140,8 +115,7 @@ pub(crate) fn explain_state(
 fn explain_format(page: &mut Page, state: SourceFile<'_>) -> Result<(), AllocError> {
     let whole = top(state.bytes);
     for name in ["version", "serial", "lineage"] {
-        let found = member_named(page.alloc, state.bytes, whole, name)?;
-        let Some(member) = found else {
+        let Some(member) = member_named(state.bytes, whole, name) else {
             return page.say(&["The state has no property `", name, "` (docs/STATE.md)."]);
         };
         if name == "version" && bytes_in(state.bytes, member.value) != b"4".as_slice() {
@@ -176,49 +150,39 @@ fn record_at(
 ) -> Result<Option<Span>, AllocError> {
     let resources = find(alloc, state.bytes, "resources")?;
     for record in &items(alloc, state.bytes, resources.value)? {
-        let is_type = has_text(alloc, state.bytes, *record, "type", address.type_name)?;
-        if is_type && has_text(alloc, state.bytes, *record, "name", address.name)? {
-            return attribute_at(alloc, state.bytes, *record, address.attribute);
+        if has_text(state.bytes, *record, "type", address.type_name)
+            && has_text(state.bytes, *record, "name", address.name)
+        {
+            let found = attribute_at(alloc, state.bytes, *record, address.attribute)?;
+            return Ok(Some(found));
         }
     }
     Ok(None)
 }
 
 /// Finds an attribute in a record: in the first instance that has it. If none has it, returns the first byte of the record.
-fn attribute_at(
-    alloc: Global,
-    text: &[u8],
-    record: Span,
-    name: &str,
-) -> Result<Option<Span>, AllocError> {
-    if let Some(instances) = member_named(alloc, text, record, "instances")? {
+fn attribute_at(alloc: Global, text: &[u8], record: Span, name: &str) -> Result<Span, AllocError> {
+    if let Some(instances) = member_named(text, record, "instances") {
         for instance in &items(alloc, text, instances.value)? {
-            let Some(attributes) = member_named(alloc, text, *instance, "attributes")? else {
-                continue;
-            };
-            if let Some(found) = member_named(alloc, text, attributes.value, name)? {
-                return Ok(Some(found.value));
+            if let Some(found) = attribute_of(text, *instance, name) {
+                return Ok(found.value);
             }
         }
     }
-    let end = record.start.saturating_add(1);
-    Ok(Some(Span {
-        start: record.start,
-        end,
-    }))
+    Ok(first_byte(record))
+}
+
+/// Returns an attribute of an instance in a state.
+fn attribute_of(text: &[u8], instance: Span, name: &str) -> Option<Member> {
+    let attributes = member_named(text, instance, "attributes")?;
+    member_named(text, attributes.value, name)
 }
 
 /// Returns whether a property of an object is a text.
-fn has_text(
-    alloc: Global,
-    text: &[u8],
-    object: Span,
-    name: &str,
-    wanted: &str,
-) -> Result<bool, AllocError> {
-    match member_named(alloc, text, object, name)? {
-        Some(member) => Ok(text_in(alloc, text, member.value)?.as_str() == wanted),
-        None => Ok(false),
+fn has_text(text: &[u8], object: Span, name: &str, wanted: &str) -> bool {
+    match member_named(text, object, name) {
+        Some(member) => is_text(text, member.value, wanted),
+        None => false,
     }
 }
 
@@ -259,12 +223,12 @@ fn explain_config_limit(page: &mut Page, config: SourceFile<'_>) -> Result<(), A
         ("locals", "locals"),
         ("output", "outputs"),
     ] {
-        let count = names_of_section(page.alloc, config.bytes, section_name)?.len();
+        let count = declared_count(config.bytes, section_name);
         if count > MOST_DECLARED {
             return say_count(page, what, count);
         }
     }
-    let count = addresses(page.alloc, config.bytes)?.len();
+    let count = block_count(page.alloc, config.bytes)?;
     if count > MOST_DECLARED {
         return say_count(page, "resource blocks", count);
     }
@@ -282,7 +246,7 @@ fn say_count(page: &mut Page, what: &str, count: usize) -> Result<(), AllocError
     page.say(&[sentence.as_str()])
 }
 
-/// Shows the block, or the output, of a diagnostic.
+/// Shows the attribute of a diagnostic, or else the block or the output.
 ///
 /// # Errors
 ///
@@ -292,12 +256,8 @@ pub(crate) fn explain_diagnostic(
     line: ErrorLine<'_>,
     sources: Sources<'_>,
 ) -> Result<(), AllocError> {
-    let found = match line.place.strip_prefix("output.") {
-        Some(name) => declaration(page.alloc, sources.config.bytes, "output", name)?,
-        None => block_at(page.alloc, line.place, sources)?,
-    };
-    if let Some(member) = found {
-        page.show(sources.config, member.name)?;
+    if let Some(span) = diagnosed_at(line, sources.config.bytes) {
+        page.show(sources.config, span)?;
     }
     match line.code {
         21 => page.say(&[
@@ -311,5 +271,27 @@ pub(crate) fn explain_diagnostic(
         26 => page.say(&["Memory ran out, or a file couldn't be written. Nothing was done."]),
         27 => page.say(&["A stop came before this action began. Apply again to carry it out."]),
         _ => Ok(()),
+    }
+}
+
+/// Finds the argument that a diagnostic names, or else the name of its block or output.
+fn diagnosed_at(line: ErrorLine<'_>, config: &[u8]) -> Option<Span> {
+    if let Some(name) = line.place.strip_prefix("output.") {
+        return Some(declaration(config, "output", name)?.name);
+    }
+    let found = block_at(config, line.place)?;
+    let argument = match attribute_in(line) {
+        Some(name) => member_named(config, found.value, name),
+        None => None,
+    };
+    Some(argument.map_or(found.name, |member| member.value))
+}
+
+/// Returns the attribute that a diagnostic names: the one that a reply contradicts, or the one whose value has a fault.
+fn attribute_in(line: ErrorLine<'_>) -> Option<&str> {
+    match line.code {
+        22 => line.message.strip_prefix("contradicts "),
+        24 => Some(line.message.split_once(": ")?.0),
+        _ => None,
     }
 }

@@ -1,13 +1,12 @@
 //! What the format doesn't allow.
 
 use crate::blocks::section;
-use crate::causes::shape_bodies::{body_shape, explain_number, output_shape, variable_shape};
-use crate::near::suggestion_among;
+use crate::causes::shape_bodies::{body_shape, output_shape, variable_shape};
 use crate::page::Page;
-use crate::positions::{Found, find, top};
+use crate::positions::{find, top};
 use crate::sources::{SourceFile, Sources};
-use crate::span::{Span, byte_at};
-use std::alloc::AllocError;
+use crate::span::{Span, byte_at, find_bytes, first_byte};
+use std::alloc::{AllocError, Global};
 use tf_config_address::is_name;
 
 /// The blocks of a configuration.
@@ -43,6 +42,41 @@ const RESERVED_TYPES: [&str; 12] = [
     "null",
 ];
 
+/// Where a fault is in a file.
+#[derive(Clone, Copy)]
+pub(crate) struct Spot<'f> {
+    pub(crate) file: SourceFile<'f>,
+    /// The value.
+    pub(crate) value: Span,
+    /// The name of the property, with the quotes, if it is a property.
+    pub(crate) name: Option<Span>,
+}
+
+impl Spot<'_> {
+    /// Returns the first byte of the value.
+    pub(crate) fn first(self) -> u8 {
+        byte_at(self.file.bytes, self.value.start)
+    }
+
+    /// Shows the value.
+    ///
+    /// # Errors
+    ///
+    /// Fails only if memory runs out.
+    pub(crate) fn show(self, page: &mut Page) -> Result<(), AllocError> {
+        page.show(self.file, self.value)
+    }
+
+    /// Shows the name of the property, or its value if it has none.
+    ///
+    /// # Errors
+    ///
+    /// Fails only if memory runs out.
+    pub(crate) fn show_name(self, page: &mut Page) -> Result<(), AllocError> {
+        page.show(self.file, self.name.unwrap_or(self.value))
+    }
+}
+
 /// Explains what the format doesn't allow at a place.
 ///
 /// # Errors
@@ -59,28 +93,30 @@ pub(crate) fn explain_shape(
         return page.say(&["A configuration is one object: { .. }."]);
     }
     let (first, rest) = place.split_once(".").unwrap_or((place, ""));
-    if section(page.alloc, config.bytes, first)?.is_none() {
+    if section(config.bytes, first).is_none() {
         return variables_shape(page, place, sources);
     }
-    let found = find(page.alloc, config.bytes, place)?;
+    let spot = spot_at(page.alloc, config, place)?;
     if rest.is_empty() {
-        return section_shape(page, first, config, found);
+        return section_shape(page, first, spot);
     }
     match first {
-        "resource" => resource_shape(page, rest, config, found),
-        "variable" => variable_shape(page, rest, config, found),
-        "output" => output_shape(page, rest, config, found),
-        "locals" if !rest.contains(".") => local_shape(page, rest, config, found),
-        _ => explain_number(page, config, found),
+        "resource" => resource_shape(page, rest, spot),
+        "variable" => variable_shape(page, rest, spot),
+        "output" => output_shape(page, rest, spot),
+        "locals" if !rest.contains(".") => named_shape(page, rest, spot),
+        _ => explain_number(page, spot),
     }
 }
 
-/// Returns the first byte of a range.
-fn first_byte(span: Span) -> Span {
-    Span {
-        start: span.start,
-        end: span.start.saturating_add(1),
-    }
+/// Finds a place in a file.
+fn spot_at<'f>(alloc: Global, file: SourceFile<'f>, place: &str) -> Result<Spot<'f>, AllocError> {
+    let found = find(alloc, file.bytes, place)?;
+    Ok(Spot {
+        file,
+        value: found.value,
+        name: found.name,
+    })
 }
 
 /// Explains a fault in the variables file.
@@ -94,22 +130,17 @@ fn variables_shape(page: &mut Page, place: &str, sources: Sources<'_>) -> Result
             "The variables file is one object: names of variables, with their values.",
         ]);
     }
-    let found = find(page.alloc, vars.bytes, place)?;
-    explain_number(page, vars, found)
+    let spot = spot_at(page.alloc, vars, place)?;
+    explain_number(page, spot)
 }
 
 /// Explains a fault at a property of the configuration itself.
-fn section_shape(
-    page: &mut Page,
-    name: &str,
-    config: SourceFile<'_>,
-    found: Found<'_>,
-) -> Result<(), AllocError> {
+fn section_shape(page: &mut Page, name: &str, spot: Spot<'_>) -> Result<(), AllocError> {
     if BLOCKS.contains(&name) {
-        page.show(config, found.value)?;
+        spot.show(page)?;
         return page.say(&["`", name, "` has to be an object: { \"NAME\": .. }."]);
     }
-    show_name(page, config, found)?;
+    spot.show_name(page)?;
     if UNSUPPORTED_BLOCKS.contains(&name) {
         return page.say(&[
             "Blocks of the kind `",
@@ -117,49 +148,50 @@ fn section_shape(
             "` aren't supported here (docs/DIFFERENCES.md).",
         ]);
     }
-    let suggestion = suggestion_among(page.alloc, name, &BLOCKS)?;
-    page.say(&[
-        "A configuration has no blocks of the kind `",
+    page.suggest_among(
+        &["A configuration has no blocks of the kind `", name, "`."],
         name,
-        "`.",
-        suggestion.as_str(),
-    ])
+        &BLOCKS,
+    )
 }
 
-/// Shows the name of a property, or its value if it has none.
-///
-/// # Errors
-///
-/// Fails only if memory runs out.
-pub(crate) fn show_name(
-    page: &mut Page,
-    file: SourceFile<'_>,
-    found: Found<'_>,
-) -> Result<(), AllocError> {
-    page.show(file, found.name.unwrap_or(found.value))
-}
-
-/// Explains that a name is none, if it isn't one. Returns whether it did.
-///
-/// # Errors
-///
-/// Fails only if memory runs out.
-pub(crate) fn explain_name(
-    page: &mut Page,
-    name: &str,
-    file: SourceFile<'_>,
-    found: Found<'_>,
-) -> Result<bool, AllocError> {
-    if is_name(name) {
-        return Ok(false);
-    }
-    show_name(page, file, found)?;
+/// Explains that a name is none.
+fn say_no_name(page: &mut Page, name: &str, spot: Spot<'_>) -> Result<(), AllocError> {
+    spot.show_name(page)?;
     page.say(&[
         "`",
         name,
         "` isn't a name. A name begins with a letter or `_`, and has only letters, digits, `_` and `-`.",
-    ])?;
-    Ok(true)
+    ])
+}
+
+/// Explains that a name is none, or else that a value is no object.
+///
+/// # Errors
+///
+/// Fails only if memory runs out.
+pub(crate) fn object_shape<'a>(
+    page: &mut Page,
+    what: &'a str,
+    name: &'a str,
+    spot: Spot<'_>,
+) -> Result<(), AllocError> {
+    if !is_name(name) {
+        return say_no_name(page, name, spot);
+    }
+    explain_no_object(page, what, spot)
+}
+
+/// Explains that a name is none, or else a fault in a value.
+///
+/// # Errors
+///
+/// Fails only if memory runs out.
+pub(crate) fn named_shape(page: &mut Page, name: &str, spot: Spot<'_>) -> Result<(), AllocError> {
+    if !is_name(name) {
+        return say_no_name(page, name, spot);
+    }
+    explain_number(page, spot)
 }
 
 /// Explains that a value is no object.
@@ -170,11 +202,10 @@ pub(crate) fn explain_name(
 pub(crate) fn explain_no_object(
     page: &mut Page,
     what: &str,
-    file: SourceFile<'_>,
-    found: Found<'_>,
+    spot: Spot<'_>,
 ) -> Result<(), AllocError> {
-    page.show(file, found.value)?;
-    if byte_at(file.bytes, found.value.start) == b'[' {
+    spot.show(page)?;
+    if spot.first() == b'[' {
         return page.say(&[
             what,
             " is one object here. Arrays of objects aren't supported (docs/DIFFERENCES.md).",
@@ -183,51 +214,54 @@ pub(crate) fn explain_no_object(
     page.say(&[what, " has to be an object: { .. }."])
 }
 
-/// Explains a fault in a local.
-fn local_shape(
-    page: &mut Page,
-    name: &str,
-    config: SourceFile<'_>,
-    found: Found<'_>,
-) -> Result<(), AllocError> {
-    if explain_name(page, name, config, found)? {
-        return Ok(());
+/// Explains a number that isn't whole, or a property's name that looks like a template.
+///
+/// # Errors
+///
+/// Fails only if memory runs out.
+pub(crate) fn explain_number(page: &mut Page, spot: Spot<'_>) -> Result<(), AllocError> {
+    let is_number = matches!(spot.first(), b'-' | b'0'..=b'9');
+    if is_number && !is_interpolated(spot.file.bytes, spot.name) {
+        spot.show(page)?;
+        return page.say(&[
+            "A number has to be whole, within 64 bits with a sign, and without a fraction, an exponent or -0.",
+        ]);
     }
-    explain_number(page, config, found)
+    spot.show_name(page)?;
+    page.say(&[
+        "The format doesn't allow this here. The name of a property is literal: it can't have ${ or %{.",
+    ])
+}
+
+/// Returns whether the name of a property looks like a template.
+fn is_interpolated(text: &[u8], name: Option<Span>) -> bool {
+    match name {
+        Some(span) => {
+            find_bytes(text, span, "${").is_some() || find_bytes(text, span, "%{").is_some()
+        }
+        None => false,
+    }
 }
 
 /// Explains a fault below `resource`.
-fn resource_shape(
-    page: &mut Page,
-    rest: &str,
-    config: SourceFile<'_>,
-    found: Found<'_>,
-) -> Result<(), AllocError> {
+fn resource_shape(page: &mut Page, rest: &str, spot: Spot<'_>) -> Result<(), AllocError> {
     let (type_name, rest) = rest.split_once(".").unwrap_or((rest, ""));
     if rest.is_empty() {
-        return type_shape(page, type_name, config, found);
+        return type_shape(page, type_name, spot);
     }
     let (name, property) = rest.split_once(".").unwrap_or((rest, ""));
-    body_shape(page, name, property, config, found)
+    body_shape(page, name, property, spot)
 }
 
 /// Explains a fault at a type.
-fn type_shape(
-    page: &mut Page,
-    type_name: &str,
-    config: SourceFile<'_>,
-    found: Found<'_>,
-) -> Result<(), AllocError> {
+fn type_shape(page: &mut Page, type_name: &str, spot: Spot<'_>) -> Result<(), AllocError> {
     if RESERVED_TYPES.contains(&type_name) {
-        show_name(page, config, found)?;
+        spot.show_name(page)?;
         return page.say(&[
             "`",
             type_name,
             "` can't be a type, since it means something else in expressions.",
         ]);
     }
-    if explain_name(page, type_name, config, found)? {
-        return Ok(());
-    }
-    explain_no_object(page, "A type", config, found)
+    object_shape(page, "A type", type_name, spot)
 }

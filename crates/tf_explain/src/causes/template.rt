@@ -2,10 +2,10 @@
 
 use crate::decoding::{spelled_at, text_in};
 use crate::page::Page;
-use crate::positions::find;
-use crate::sources::Sources;
+use crate::positions::{Found, find};
+use crate::sources::{SourceFile, Sources};
 use crate::span::{Span, between_quotes, bytes_in, is_name_byte};
-use std::alloc::{AllocError, Global};
+use std::alloc::AllocError;
 
 /// Explains why no template goes on at an offset of the text at a place.
 ///
@@ -27,11 +27,21 @@ pub(crate) fn explain_template(
         return Ok(());
     }
     let text = text_in(page.alloc, config.bytes, found.value)?;
-    let token = token_at(text.as_str(), offset);
+    explain_offset(page, config, found, text.as_str(), offset)
+}
+
+/// Explains why no template goes on at an offset of a text.
+fn explain_offset(
+    page: &mut Page,
+    config: SourceFile<'_>,
+    found: Found<'_>,
+    text: &str,
+    offset: usize,
+) -> Result<(), AllocError> {
+    let token = token_at(text, offset);
     let raw = between_quotes(config.bytes, found.value);
     page.show(config, spelled_span(config.bytes, raw, offset, token.len()))?;
-    let before = text.get(..offset).unwrap_or("");
-    explain_token(page, before, token)?;
+    explain_token(page, text.get(..offset).unwrap_or(""), token)?;
     page.note_earlier(config, found)
 }
 
@@ -79,8 +89,8 @@ fn explain_token<'a>(page: &mut Page, before: &'a str, token: &'a str) -> Result
             "Within ${ }, a text is written in double quotes, as \\\"x\\\" in JSON.",
         ]);
     }
-    if let Some(name) = bare_name(page.alloc, written)? {
-        return explain_bare_name(page, name.as_str());
+    if let Some(name) = bare_name(written) {
+        return explain_bare_name(page, name);
     }
     if written.ends_with(".") {
         return page.say(&["A name has to follow the dot."]);
@@ -142,19 +152,17 @@ fn last_word(text: &str) -> &str {
 }
 
 /// Returns the name at the end of a text, if no dot is before it and it begins with a letter.
-fn bare_name(alloc: Global, written: &str) -> Result<Option<String>, AllocError> {
+fn bare_name(written: &str) -> Option<&str> {
     let word = last_word(written);
-    let Some(before) = written.strip_suffix(word) else {
-        return Ok(None);
-    };
+    let before = written.strip_suffix(word)?;
     let begins = word
         .as_bytes()
         .first()
         .is_some_and(|byte| byte.is_ascii_alphabetic());
     if !begins || before.trim_end().ends_with(".") || before.ends_with("\"") {
-        return Ok(None);
+        return None;
     }
-    Ok(Some(String::from_str(alloc, word)?))
+    Some(word)
 }
 
 /// Explains that a name alone is no reference.
