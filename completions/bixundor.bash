@@ -25,13 +25,13 @@ _bixundor() {
             COMPREPLY=($(compgen -W "dot" -- "$cur"))
             return
             ;;
-        --lineage|--parallelism|--stop-after|--provider)
+        --var|--lineage|--parallelism|--stop-after|--provider)
             return
             ;;
     esac
     case $program in
-        plan) options="--config --vars --state --lineage --parallelism --stop-after --explain --diff --provider --graph --json --detailed-exitcode --help" ;;
-        apply) options="--config --vars --state --lineage --parallelism --stop-after --explain --diff --provider --progress --auto-approve --stop-file --in-flight --help" ;;
+        plan) options="--config --vars --var --state --lineage --parallelism --stop-after --explain --diff --json --provider --graph --detailed-exitcode --help" ;;
+        apply) options="--config --vars --var --state --lineage --parallelism --stop-after --explain --diff --json --provider --progress --auto-approve --stop-file --in-flight --help" ;;
         *) options="plan apply try --version --help" ;;
     esac
     if [[ $program == "" && ${COMP_WORDS[1]} == try && $COMP_CWORD -gt 1 ]]; then

@@ -1,1 +1,1 @@
-mod Paired
+mod EachRead

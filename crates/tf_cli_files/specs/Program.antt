@@ -1,10 +1,15 @@
 -- The end of a program if a file can't be read, or if memory ran out.
-use Rattle.std.specs.Prelude.{◌≡◌, ◌≤◌, ℕ, List, [], ◌∷◌, ◌++◌, codes, Option, Some, None, Result, Ok, Err, IfOk, MatchResult}
+use Rattle.std.specs.Prelude.{◌≡◌, ◌≤◌, ℕ, List, [], ◌∷◌, ◌++◌, codes, Option, Some, None, Result, Ok, Err, IfOk, MatchResult, Vec, option_map}
 use Rattle.std.specs.Process.{exit_status}
 use Rattle.std.specs.declared.process.ExitCode.{ExitCode}
 use Rattle.tf_cli_lines.specs.Saved.{AppendsStart}
 use Rattle.tf_cli_lines.specs.Lines.{refusal_line}
 use Rattle.tf_config_refusal.specs.Refusal.{no_memory}
+use Rattle.std.specs.declared.alloc.Global.{Global}
+use Rattle.tf_cli_files.specs.Sources.{EachRead}
+use Rattle.tf_cli_options.specs.declared.words.VariableSource.{VariableSource}
+use Rattle.tf_cli_variables.specs.Choice.{AreVariables}
+use Rattle.tf_cli_variables.specs.declared.source.Source.{Source}
 
 -- the status of a program that didn't do its work
 abbrev pub IsFailure : ExitCode → Type 0
@@ -24,21 +29,15 @@ abbrev pub TellsUnread : {X E : Type 0} → Result X E → List ℕ → Option (
 TellsUnread (Ok x) file old new = new ≡ old
 TellsUnread (Err error) file old new = AppendsStart old new (unread_line file)
 
--- What was read of an optional file: the content of the named file, and nothing without a name.
-abbrev pub ReadsNamed : {X E : Type 0} → (List ℕ → Result X E → Type 0) → Option (List ℕ) → Option X → Type 0
-ReadsNamed Reads (Some name) (Some bytes) = Reads name (Ok bytes)
-ReadsNamed Reads None None = Unit {0}
-ReadsNamed Reads _ _ = ⊥
-
 -- A file that doesn't exist gives nothing, and an existing one was read.
 abbrev pub ReadsOptional : {X E : Type 0} → (E → Type 0) → (List ℕ → Result X E → Type 0) → List ℕ → Option X → Type 0
 ReadsOptional IsAbsent Reads name (Some bytes) = Reads name (Ok bytes)
 ReadsOptional {X} {E} IsAbsent Reads name None = (error : E) × IsAbsent error × Reads name (Err error)
 
--- The input is the contents of the named files: of the configuration, and of the variables if they are named.
-pub record AreReads {X E : Type 0} (Reads : List ℕ → Result X E → Type 0) (config_name : List ℕ) (vars_name : Option (List ℕ)) (config : X) (vars : Option X) : Type 0 where
+-- The input is the contents of the named files: of the configuration, and of the sources of the variables' values together.
+pub record AreReads {E : Type 0} (Reads : List ℕ → Result (Vec ℕ Global) E → Type 0) (config_name : List ℕ) (names : List VariableSource) (config : Vec ℕ Global) (vars : Option (Vec ℕ Global)) : Type 0 where
   pub configuration : Reads config_name (Ok config)
-  pub variables : ReadsNamed Reads vars_name vars
+  pub variables : (sources : List Source) × EachRead Reads names sources × AreVariables config.items sources (option_map (λ bytes. bytes.items) vars)
 
 -- An end before the work: help, with status 0; a refusal or an unreadable file, with status 1; or an error.
 abbrev pub IsEarly : {E : Type 0} → Result ExitCode E → Type 0

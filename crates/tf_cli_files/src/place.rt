@@ -4,7 +4,7 @@ use std::alloc::{AllocError, Global};
 use std::path::Path;
 use std::rt::Files;
 use std::{fs, io};
-use tf_cli_options::Options;
+use tf_cli_options::{Options, VariableSource};
 
 /// The least number of links in a row that is refused, after Linux's limit of 40.
 const MOST_LINKS: usize = 40;
@@ -46,7 +46,7 @@ impl Place {
         })
     }
 
-    /// Returns the names of these files, and of the configuration and the variables file that the options name. No provider may
+    /// Returns the names of these files, and of the configuration and the variables files that the options name. No provider may
     /// write to them.
     ///
     /// # Errors
@@ -64,8 +64,10 @@ impl Place {
         ] {
             names.push(String::from_str(alloc, name.as_str())?)?;
         }
-        if let Some(vars) = &options.vars {
-            names.push(String::from_str(alloc, vars.as_str())?)?;
+        for source in &options.variables {
+            if let VariableSource::File(name) = source {
+                names.push(String::from_str(alloc, name.as_str())?)?;
+            }
         }
         Ok(names)
     }

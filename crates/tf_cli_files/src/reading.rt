@@ -2,17 +2,20 @@
 
 ghost use Rattle.std.specs.Fn.{FnReturnsAt};
 ghost use Rattle.std.specs.IoError.{error_kind};
-ghost use Rattle.std.specs.Prelude.{◌≡◌, IfErr, IfOk, None, Ok, option_map, string_bytes};
+ghost use Rattle.std.specs.Prelude.{◌≡◌, IfErr, IfOk, None, Ok, string_bytes};
 ghost use Rattle.tf_cli_lines.specs.Saved.{AppendsStart};
-ghost use Rattle.tf_cli_files.specs.Program.{AreReads, GoesOn, IsFailure, ReadsNamed, ReadsOptional, TellsUnread, unread_line};
+ghost use Rattle.tf_cli_files.specs.Program.{AreReads, GoesOn, IsFailure, ReadsOptional, TellsUnread, unread_line};
 
 use crate::given::ProgramInput;
+use crate::sources::{merged, named, read_sources};
+use std::alloc::Global;
 use std::io::{ErrorKind, Read, Write};
 use std::process::ExitCode;
 use std::rt::Files;
 use std::{fs, io};
 use tf_cli_lines::save_all;
 use tf_cli_options::Options;
+use tf_cli_variables::Variables;
 
 /// The most bytes that are read of a configuration or a variables file: one more than either may have.
 const MOST_BYTES: u64 = 4_194_305;
@@ -27,9 +30,11 @@ pub(crate) fn read_input<R: Files + AllocGlobal>(rt: &R, name: &str) -> io::Resu
     Ok(bytes)
 }
 
-/// Reads the files that the options name, the configuration and then the variables. The state is `None` for now. If a
-/// file can't be read, prints that, reads no other one, and returns the program's exit status.
+/// Reads the files that the options name, the configuration and then those with variables' values, and [merges](variables_of) the
+/// values. The state is `None` for now. If a file can't be read, or an assignment of a variable is refused, prints that, reads no
+/// other file, and returns the program's exit status.
 pub fn read_files<F: Fn(&str) -> io::Result<Vec<u8>>, E: Write>(
+    alloc: Global,
     options: Options,
     read: &F,
     err: &mut E,
@@ -37,21 +42,26 @@ pub fn read_files<F: Fn(&str) -> io::Result<Vec<u8>>, E: Write>(
     requires { F.IsAlwaysCallable read.now }
     ensures status { IfErr result IsFailure }
     ensures options { IfOk result (λ given. given.options ≡ options) }
-    ensures files { IfOk result (λ given. AreReads (FnReturnsAt F.Fn read.now) (string_bytes options.config) (option_map string_bytes options.vars) given.config given.vars) }
+    ensures files { IfOk result (λ given. AreReads (FnReturnsAt F.Fn read.now) (string_bytes options.config) options.variables.items given.config given.vars) }
     ensures stateless { IfOk result (λ given. given.state ≡ None) }
 {
     let config = read_file(options.config.as_str(), read, err)?;
-    let vars = read_vars_file(&options.vars, read, err)?;
+    let names = options.variables.as_slice();
+    let sources = read_sources(alloc, names, read, err)?;
+    let found = merged(alloc, config.as_slice(), names, sources, err)?;
+    let vars_name = named(alloc, names, &found, err)?;
+    let Variables { bytes, .. } = found;
     Ok(ProgramInput {
         options,
         config,
-        vars,
+        vars: bytes,
+        vars_name,
         state: None,
     })
 }
 
 /// Reads a file. If it can't be read, prints that.
-fn read_file<F: Fn(&str) -> io::Result<Vec<u8>>, E: Write>(
+pub(crate) fn read_file<F: Fn(&str) -> io::Result<Vec<u8>>, E: Write>(
     file: &str,
     read: &F,
     err: &mut E,
@@ -61,22 +71,6 @@ fn read_file<F: Fn(&str) -> io::Result<Vec<u8>>, E: Write>(
     ensures read { IfOk result (λ bytes. FnReturnsAt F.Fn read.now file.now (Ok bytes)) }
 {
     or_told(read(file), file, err)
-}
-
-/// Reads the variables file, if one is named. If it can't be read, prints that.
-fn read_vars_file<F: Fn(&str) -> io::Result<Vec<u8>>, E: Write>(
-    file: &Option<String>,
-    read: &F,
-    err: &mut E,
-) -> Result<Option<Vec<u8>>, ExitCode>
-    requires { F.IsAlwaysCallable read.now }
-    ensures status { IfErr result IsFailure }
-    ensures read { IfOk result (λ vars. ReadsNamed (FnReturnsAt F.Fn read.now) (option_map string_bytes file.now) vars) }
-{
-    match file {
-        None => Ok(None),
-        Some(file) => Ok(Some(read_file(file.as_str(), read, err)?)),
-    }
 }
 
 /// Reads a file that may be absent, such as a state's. If it exists and can't be read, prints that and returns the

@@ -38,7 +38,7 @@ pub fn see<R: Files + AllocGlobal, E: Write>(
 ) -> Result<Seen, ExitCode>
     ensures { IfErr result IsFailure }
 {
-    let given = read_files(options, &|file| read_input(rt, file), err)?;
+    let given = read_files(rt.alloc(), options, &|file| read_input(rt, file), err)?;
     let place = place_of(rt, &given, err)?;
     see_state(rt, given, place, err)
 }
@@ -54,7 +54,7 @@ where
     R::File: LogFile,
     ensures { IfErr result IsFailure }
 {
-    let given = read_files(options, &|file| read_input(rt, file), err)?;
+    let given = read_files(rt.alloc(), options, &|file| read_input(rt, file), err)?;
     let place = place_of(rt, &given, err)?;
     let log = lock(rt, &given, &place, err)?;
     check_owner(rt, &place, &log, err)?;

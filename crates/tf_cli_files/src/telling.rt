@@ -1,17 +1,20 @@
 //! Messages on standard error about logs and locks.
 
-ghost use Rattle.std.specs.Prelude.{◌≡◌, ◌∷◌, ◌++◌, codes, string_bytes};
+ghost use Rattle.std.specs.Prelude.{◌≡◌, ◌∷◌, ◌++◌, [], codes, string_bytes};
 ghost use Rattle.tf_cli_lines.specs.Saved.{AppendsStart};
 ghost use Rattle.tf_cli_files.specs.Program.{IsFailure};
+ghost use Rattle.tf_cli_files.specs.Assigned.{assignment_line, said_of};
 
 use crate::past::Past;
 use crate::place::Place;
+use crate::requested::request_text;
 use std::alloc::Global;
 use std::io::Write;
 use std::process::ExitCode;
 use tf_cli_lines::{print_refusal, save, save_all, verb_text};
+use tf_cli_variables::{Cause, name_in};
 use tf_config_refusal::Refusal;
-use tf_provider_log::{LineFault, request_line};
+use tf_provider_log::LineFault;
 use tf_provider_protocol::Request;
 
 /// Prints that memory ran out, and returns the program's exit status.
@@ -52,6 +55,35 @@ pub(crate) fn tell_special<E: Write>(file: &str, err: &mut E) -> ExitCode
 {
     let _ = save_all(err, &["error: ", file, " isn't a regular file\n"]);
     ExitCode::FAILURE
+}
+
+/// Prints why an assignment of a variable gives no value, and returns the program's exit status. The value isn't printed, since it
+/// may be a secret.
+pub(crate) fn tell_assignment<E: Write>(text: &str, cause: Cause, err: &mut E) -> ExitCode
+    ensures status { IsFailure result }
+    ensures told { AppendsStart (E.contents err.old) (E.contents err.new) (assignment_line text.now cause) }
+{
+    print_assignment(name_in(text), said_of(cause), err);
+    ExitCode::FAILURE
+}
+
+/// Prints what is wrong with the value of a variable.
+fn print_assignment<E: Write>(name: &str, said: &str, err: &mut E)
+    ensures { AppendsStart (E.contents err.old) (E.contents err.new) (codes "error: --var " ++ (name.now ++ (said.now ++ 10 ∷ []))) }
+{
+    let _ = save_all(err, &["error: --var ", name, said, "\n"]);
+}
+
+/// Returns what is printed of a source without values, after the name of the variable.
+fn said_of(cause: Cause) -> &'static str
+    ensures { result.now ≡ said_of cause }
+{
+    match cause {
+        Cause::NoEqualsSign => " has no value: write NAME=VALUE",
+        Cause::Undeclared => ": the configuration declares no such variable",
+        Cause::NotJson => ": the value isn't JSON; only a variable of type string takes any text",
+        Cause::NotAFile => ": not a variables file",
+    }
 }
 
 /// Prints that a line of a log is malformed, and returns the program's exit status.
@@ -123,7 +155,7 @@ pub fn tell_calls<E: Write>(alloc: Global, past: &Past, err: &mut E) {
     }
 }
 
-/// Prints that a request was begun and has no recorded result.
+/// Prints that a request was begun and has no recorded result, and its attributes.
 pub fn tell_in_flight<E: Write>(alloc: Global, request: &Request, err: &mut E) {
     let verb = verb_text(&Some(request.op));
     let _ = writeln!(
@@ -131,7 +163,7 @@ pub fn tell_in_flight<E: Write>(alloc: Global, request: &Request, err: &mut E) {
         "warning: {}{verb} was begun, its result is not known",
         request.address
     );
-    if let Ok(line) = request_line(alloc, request) {
-        let _ = save(err, line.as_str());
+    if let Ok(text) = request_text(alloc, request) {
+        let _ = save(err, text.as_str());
     }
 }

@@ -1,2 +1,3 @@
 mod Flags
+mod Woven
 mod Workers

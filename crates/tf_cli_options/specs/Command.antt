@@ -39,29 +39,31 @@ graph_rule forms = record (option_rule (codes "graph")) { parser = Some (vp.Name
 abbrev pub flag_rule : Text → Rule
 flag_rule name = record (new_rule name) { long = Some name; action = Some SetTrue }
 
--- an option `--provider VALUE`, which may be given several times
-abbrev pub provider_rule : Rule
-provider_rule = record (option_rule (codes "provider")) { action = Some Append }
+-- an option `--NAME VALUE`, which may be given several times
+abbrev pub repeated_rule : Text → Rule
+repeated_rule name = record (option_rule name) { action = Some Append }
 
--- The options of both programs: the files of the configuration, of the variables' values and of the state, the
--- lineage of a new state, the number of workers, after how many calls to stop, whether errors are explained, whether a plan is
--- printed with the old values, and the folders of providers outside the program.
+-- The options of both programs: the file of the configuration, the files with variables' values, the values of single variables,
+-- the file of the state, the lineage of a new state, the number of workers, after how many calls to stop, whether errors are
+-- explained, whether a plan is printed with the old values, whether JSON is printed, and the folders of providers outside the program.
 unfoldable pub shared_app : App
 shared_app =
-    with_rule (with_rule (with_rule (with_rule (with_rule (with_rule (with_rule (with_rule (with_rule (new_app (codes "bixundor"))
+    with_rule (with_rule (with_rule (with_rule (with_rule (with_rule (with_rule (with_rule (with_rule (with_rule (with_rule (new_app (codes "bixundor"))
     (default_rule (codes "config") (codes "main.tf.json")))
-    (option_rule (codes "vars")))
+    (repeated_rule (codes "vars")))
+    (repeated_rule (codes "var")))
     (default_rule (codes "state") (codes "terraform.tfstate")))
     (default_rule (codes "lineage") (codes "00000000-0000-0000-0000-000000000000")))
     workers_rule)
     stop_rule)
     (flag_rule (codes "explain")))
     (flag_rule (codes "diff")))
-    provider_rule
+    (flag_rule (codes "json")))
+    (repeated_rule (codes "provider"))
 
--- `plan` also draws a graph, prints JSON, and says by its status whether there are changes
+-- `plan` also draws a graph, and says by its status whether there are changes
 abbrev pub plan_app : Forms → App
-plan_app forms = with_rule (with_rule (with_rule shared_app (graph_rule forms)) (flag_rule (codes "json"))) (flag_rule (codes "detailed-exitcode"))
+plan_app forms = with_rule (with_rule shared_app (graph_rule forms)) (flag_rule (codes "detailed-exitcode"))
 
 -- `apply` also prints progress, may be kept from asking for approval, stops once a file exists, and reads the results of calls that
 -- were in flight

@@ -1,11 +1,13 @@
 -- The options, as read from what `clap` finds in the words.
-use Rattle.std.specs.Prelude.{◌≡◌, ℕ, Bool, true, false, if◌then◌else◌, List, [], map, Option, Some, None, MatchOption, codes, option_and_then, option_map, unwrap_or, string_bytes}
+use Rattle.std.specs.Prelude.{◌≡◌, ℕ, Bool, true, false, if◌then◌else◌, List, [], ◌∷◌, map, Option, Some, None, MatchOption, codes, option_and_then, option_map, unwrap_or, string_bytes}
 use Rattle.std.specs.Str.{bytes_eq}
 use Rattle.std.specs.Str.Parse.{digits_value, without_leading_plus}
 use Rattle.clap.specs.Words.{IsUnsignedIn, Row, Text, all_of, first_of, one_of}
 use Rattle.tf_cli_options.specs.declared.words.GraphForm.{GraphForm}
 use Rattle.tf_cli_options.specs.declared.words.GraphForm.TheVariants.{Dot}
 use Rattle.tf_cli_options.specs.declared.words.Options.{Options}
+use Rattle.tf_cli_options.specs.declared.words.VariableSource.{VariableSource}
+use Rattle.tf_cli_options.specs.declared.words.VariableSource.TheVariants.{File, Assignment}
 
 -- the given value of an option, or its default
 abbrev pub given_or : Text → Text → List Row → Text
@@ -29,14 +31,36 @@ form_named name = if bytes_eq name (codes "dot") then Some Dot else None
 abbrev pub IsFlag : Option Text → Bool → Type 0
 IsFlag given set = MatchOption given (set ≡ false) (λ text. (text ≡ codes "true" → set ≡ true) × (text ≡ codes "false" → set ≡ false))
 
+-- the files among sources of values, in order
+abbrev pub files_in : List VariableSource → List Text
+files_in [] = []
+files_in (File name ∷ sources) = string_bytes name ∷ files_in sources
+files_in (Assignment text ∷ sources) = files_in sources
+
+-- the assignments among sources of values, in order
+abbrev pub assignments_in : List VariableSource → List Text
+assignments_in [] = []
+assignments_in (File name ∷ sources) = assignments_in sources
+assignments_in (Assignment text ∷ sources) = string_bytes text ∷ assignments_in sources
+
+-- the files that are given of variables' values
+abbrev pub files_given : List Row → List Text
+files_given rows = unwrap_or (all_of (codes "vars") rows) []
+
+-- the assignments that are given
+abbrev pub assignments_given : List Row → List Text
+assignments_given rows = unwrap_or (all_of (codes "var") rows) []
+
 -- the folders that are given of providers outside the program
 abbrev pub providers_given : List Row → List Text
 providers_given rows = unwrap_or (all_of (codes "provider") rows) []
 
--- Each option has its given value, or its default. The files of the variables' values, of a stop and of calls in flight have no default.
+-- Each option has its given value, or its default. The sources of variables' values, and the files of a stop and of calls in flight
+-- have no default.
 pub record Reads (o : Options) (rows : List Row) : Type 0 where
   pub config : string_bytes o.config ≡ given_or (codes "config") (codes "main.tf.json") rows
-  pub vars : option_map (λ s. string_bytes s) o.vars ≡ first_of (codes "vars") rows
+  pub files : files_in o.variables.items ≡ files_given rows
+  pub assignments : assignments_in o.variables.items ≡ assignments_given rows
   pub state : string_bytes o.state ≡ given_or (codes "state") (codes "terraform.tfstate") rows
   pub lineage : string_bytes o.lineage ≡ given_or (codes "lineage") (codes "00000000-0000-0000-0000-000000000000") rows
   pub parallelism : IsWorkers (one_of (codes "parallelism") rows) o.parallelism

@@ -2,10 +2,11 @@
 #![tactic(auto)]
 
 mod asking;
-mod providing;
 mod reading;
+mod sources;
+mod texts;
 pub mod words;
 
 pub use asking::asked_of;
 pub use reading::options;
-pub use words::{GraphForm, Options, Program};
+pub use words::{GraphForm, Options, Program, VariableSource};

@@ -2,10 +2,11 @@
 
 ghost use Rattle.std.specs.Prelude.{◌≡◌, ◌≤◌, false, IfOk, IfSome, codes, map, option_and_then, option_map, string_bytes};
 ghost use Rattle.clap.specs.Words.{FailsBy, app_of, fault_of, first_of, found_of, matches_of, one_of, rows_of, rule_of};
-ghost use Rattle.tf_cli_options.specs.Command.{apply_app, AreForms, default_rule, Forms, flag_rule, graph_rule, option_rule, options_app, plan_app, provider_rule, shared_app, stop_rule, workers_rule};
+ghost use Rattle.tf_cli_options.specs.Command.{apply_app, AreForms, default_rule, Forms, flag_rule, graph_rule, option_rule, options_app, plan_app, repeated_rule, shared_app, stop_rule, workers_rule};
 ghost use Rattle.tf_cli_options.specs.Reads.{IsFlag, IsStop, IsWorkers, Reads, form_named, given_or};
 
-use crate::providing::providers_in;
+use crate::sources::sources_in;
+use crate::texts::texts_of;
 use crate::words::{GraphForm, Options, Program};
 use clap::{Arg, ArgAction, ArgMatches, Command, Error};
 use std::alloc::{AllocError, Global};
@@ -68,11 +69,6 @@ fn plan_command<'a>(alloc: Global, forms: &'a [&'a str]) -> Result<Command<'a>, 
         .arg(graph_option(alloc, forms))?
         .arg(flag_option(
             alloc,
-            "json",
-            "Prints the plan as JSON, in the form of Terraform's plan representation",
-        ))?
-        .arg(flag_option(
-            alloc,
             "detailed-exitcode",
             "Exits with 2 if the plan has changes",
         ))
@@ -109,7 +105,18 @@ fn shared_command<'a>(alloc: Global) -> Result<Command<'a>, AllocError>
 {
     Command::new(alloc, "bixundor")
         .arg(default_option(alloc, "config", "FILE", CONFIG, "The configuration"))?
-        .arg(option(alloc, "vars", "FILE", "The values of the variables"))?
+        .arg(repeated_option(
+            alloc,
+            "vars",
+            "FILE",
+            "A file with values of variables; may be given several times",
+        ))?
+        .arg(repeated_option(
+            alloc,
+            "var",
+            "NAME=VALUE",
+            "The value of a variable, in JSON unless its type is string; may be given several times",
+        ))?
         .arg(default_option(alloc, "state", "FILE", STATE, "The state"))?
         .arg(default_option(
             alloc,
@@ -125,6 +132,11 @@ fn shared_command<'a>(alloc: Global) -> Result<Command<'a>, AllocError>
             alloc,
             "diff",
             "Prints the plan with the old values next to the new ones",
+        ))?
+        .arg(flag_option(
+            alloc,
+            "json",
+            "Prints JSON in the forms of Terraform: plan the plan, apply what happens, one event a line",
         ))?
         .arg(provider_option(alloc))
 }
@@ -175,16 +187,22 @@ fn flag_option<'a>(alloc: Global, name: &'a str, help: &'a str) -> Arg<'a>
 }
 
 fn provider_option<'a>(alloc: Global) -> Arg<'a>
-    ensures rule { rule_of result ≡ provider_rule }
+    ensures rule { rule_of result ≡ repeated_rule (codes "provider") }
     ensures local { result.global ≡ false }
 {
-    option(
+    repeated_option(
         alloc,
         "provider",
         "DIR",
         "The folder of a provider outside the program; may be given several times",
     )
-    .action(ArgAction::Append)
+}
+
+fn repeated_option<'a>(alloc: Global, name: &'a str, value: &'a str, help: &'a str) -> Arg<'a>
+    ensures rule { rule_of result ≡ repeated_rule name.now }
+    ensures local { result.global ≡ false }
+{
+    option(alloc, name, value, help).action(ArgAction::Append)
 }
 
 fn workers_option<'a>(alloc: Global) -> Arg<'a>
@@ -239,7 +257,7 @@ fn options_in(alloc: Global, matches: &ArgMatches<'_>) -> Result<Options, AllocE
 {
     Ok(Options {
         config: value_or(alloc, matches, "config", CONFIG)?,
-        vars: value_of(alloc, matches, "vars")?,
+        variables: sources_in(alloc, matches)?,
         state: value_or(alloc, matches, "state", STATE)?,
         lineage: value_or(alloc, matches, "lineage", LINEAGE)?,
         parallelism: workers_in(matches),
@@ -253,7 +271,7 @@ fn options_in(alloc: Global, matches: &ArgMatches<'_>) -> Result<Options, AllocE
         in_flight: value_of(alloc, matches, "in-flight")?,
         explain: flag_in(matches, "explain"),
         diff: flag_in(matches, "diff"),
-        providers: providers_in(alloc, matches)?,
+        providers: texts_of(alloc, matches, "provider")?,
     })
 }
 

@@ -3,16 +3,17 @@
 //! | Option | Meaning | Default |
 //! |---|---|---|
 //! | `--config FILE` | the configuration | `main.tf.json` |
-//! | `--vars FILE` | the variables' values | none |
+//! | `--vars FILE` | a file with values of variables; may be given several times | none |
+//! | `--var NAME=VALUE` | the value of a variable; may be given several times | none |
 //! | `--state FILE` | the state; a file that doesn't exist is no state | `terraform.tfstate` |
 //! | `--lineage TEXT` | the lineage of a new state | `00000000-0000-0000-0000-000000000000` |
 //! | `--parallelism N` | how many workers, 1 to 64 | 10 |
 //! | `--stop-after N` | after how many calls to stop, 0 to 2,000 | doesn't stop |
 //! | `--explain` | show where an error is and what is wrong, even if standard error is not a terminal | only at a terminal |
 //! | `--diff` | print the plan with the old values next to the new ones | only the new ones |
+//! | `--json` | print JSON, in the forms of Terraform: `plan` the plan, `apply` what happens, one event a line | text |
 //! | `--provider DIR` | the folder of a provider outside the program; may be given several times | none |
 //! | `--graph dot` | `plan` only: print the order for Graphviz, in place of the plan's text | the text |
-//! | `--json` | `plan` only: print the plan as JSON, in the form of Terraform's plan representation | the text |
 //! | `--detailed-exitcode` | `plan` only: exit with 2 if the plan has changes | 0 |
 //! | `--progress` | `apply` only: print progress even if standard error is not a terminal | only at a terminal |
 //! | `--auto-approve` | `apply` only: don't ask for approval of the plan at a terminal | asks at a terminal |
@@ -35,13 +36,22 @@ pub enum GraphForm {
     Dot,
 }
 
+/// Where values of variables come from.
+#[derive(Debug, Drop)]
+pub enum VariableSource {
+    /// A variables file, by its name.
+    File(String),
+    /// The value of one variable, as `NAME=VALUE`. The text may lack the `=`.
+    Assignment(String),
+}
+
 /// The options of the programs.
 #[derive(Debug, Drop)]
 pub struct Options {
     /// The file of the configuration.
     pub config: String,
-    /// The file of the variables' values, if one is given.
-    pub vars: Option<String>,
+    /// Where the values of variables come from, in the order of the command line. The last value of a name counts.
+    pub variables: Vec<VariableSource>,
     /// The file of the state, which is read, and written if the state changes.
     pub state: String,
     /// The lineage of a new state.
@@ -52,7 +62,7 @@ pub struct Options {
     pub stop_after: Option<usize>,
     /// In which language to print the order of the plan in place of its text, if requested. Only `plan` has it.
     pub graph: Option<GraphForm>,
-    /// Whether to print the plan as JSON in place of its text. Only `plan` has it.
+    /// Whether to print JSON in place of text: `plan` the plan, `apply` what happens.
     pub json: bool,
     /// Whether to exit with 2 if the plan has changes. Only `plan` has it.
     pub detailed_exitcode: bool,

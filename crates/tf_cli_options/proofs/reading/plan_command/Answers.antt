@@ -5,9 +5,8 @@ use Rattle.clap.specs.Words.{with_rule}
 use Rattle.tf_cli_options.proofs.reading.plan_command.Goals as goal
 
 pub returns : goal.returns
-returns c = IfOk-weaker c.arg-3.result _ _
-    (λ r adds. adds.shape c.flag_option-2.ensures.local
-    ∙ ap₂ with_rule (c.in_ok-arg-2.ensures.shape c.flag_option.ensures.local
+returns c = IfOk-weaker c.arg-2.result _ _
+    (λ r adds. adds.shape c.flag_option.ensures.local
     ∙ ap₂ with_rule (c.in_ok-arg.ensures.shape c.graph_option.ensures.local
-    ∙ ap₂ with_rule c.in_ok-shared_command.ensures c.graph_option.ensures.rule) c.flag_option.ensures.rule) c.flag_option-2.ensures.rule)
-    c.arg-3.ensures
+    ∙ ap₂ with_rule c.in_ok-shared_command.ensures c.graph_option.ensures.rule) c.flag_option.ensures.rule)
+    c.arg-2.ensures

@@ -1,0 +1,4 @@
+mod Choices
+mod Given
+mod Puts
+pub mod Splits
