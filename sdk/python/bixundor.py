@@ -17,6 +17,9 @@ An attribute is described by words: `string`, `number`, `bool` or `any`, with `!
 it; `force_new` if a change of it replaces the object; `computed` if the provider sets it. `want` has every attribute, with
 None for those that aren't set and for the computed ones that aren't known yet. `address()` returns the resource's address.
 
+`@resource("note", idempotent=True, ..)` says that a request does no harm if it is made twice. `apply` then makes the requests of
+the type again whose results it doesn't know, as after a crash, without `--in-flight`.
+
 `raise Failed("message")` says that the request failed and nothing was done: the state doesn't change. `raise Failed("message",
 left={..})` says which object is there now. Any other exception is a failure with which nothing was done.
 """
@@ -57,12 +60,14 @@ def attribute(words):
 
 
 def resource(name, version=0, /, **attributes):
-    """Makes a class the resource type of this name."""
+    """Makes a class the resource type of this name. `idempotent=True` says that a request can be made again after a crash."""
+    idempotent = attributes.pop("idempotent") if isinstance(attributes.get("idempotent"), bool) else False
 
     def named(made):
         made.type_name = name
         made.schema = {
             "version": version,
+            **({"idempotent": True} if idempotent else {}),
             "block": {"attributes": {key: attribute(words) for key, words in attributes.items()}},
         }
         return made

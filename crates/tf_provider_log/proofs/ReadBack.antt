@@ -16,7 +16,7 @@ use Rattle.tf_provider_log.specs.LogEntry.{LogEntryView, begun, replied, HeaderV
 use Rattle.tf_provider_log.specs.Fit.{fits, option_fits, request_fits, answer_fits}
 use Rattle.tf_provider_log.specs.Form.{value_form, text_form, option_form, op_word, request_form, reply_form, entry_form, header_form}
 use Rattle.tf_provider_log.specs.From.{option_text_from, option_from, op_from, request_from, reply_from, entry_from, header_from}
-use Rattle.tf_provider_log.specs.Line.{IsEntryLine, IsHeaderLine, IsRequestLine, header_in, tree_in}
+use Rattle.tf_provider_log.specs.Line.{IsEntryLine, IsHeaderLine, header_in, tree_in}
 use Rattle.tf_provider_log.specs.Text.{IsSimple, IsTreeLine, IsOptionHeld, IsRequestHeld, IsAnswerHeld}
 use Rattle.tf_provider_log.proofs.Formed.{simple_form, depth_form, form_reads}
 
@@ -105,13 +105,6 @@ entry_line entry text reads is = record {
   tells = ap (option_and_then entry_from) is.reads ∙ reads;
   is_text = is.is_text;
 }
-
-pub request_is_line : (r : Asked) (d : json.Data) (text : List ℕ) → IsRequestHeld r → request_fits r ≡ true → d ≡ request_form r → (IsSimple d → json.depth d ≤ max_depth → IsTreeLine d text) → IsRequestLine r text
-request_is_line r d text held fit is line =
-    let at : IsSimple (request_form r) → json.depth (request_form r) ≤ max_depth → IsTreeLine (request_form r) text = subst (λ x. IsSimple x → json.depth x ≤ max_depth → IsTreeLine x text) is line in
-    let below = request_depth r fit in
-    let found = at (request_simple r held) (omega arith) in
-    record { line = found.line; in_line = found.in_line; tells = ap (option_and_then request_from) found.reads ∙ request_reads r held fit; is_text = found.is_text }
 
 pub begun_is_line : (r : Asked) (d : json.Data) (text : List ℕ) → IsRequestHeld r → request_fits r ≡ true → d ≡ entry_form (begun r) → (IsSimple d → json.depth d ≤ max_depth → IsTreeLine d text) → IsEntryLine (begun r) text
 begun_is_line r d text held fit is line =

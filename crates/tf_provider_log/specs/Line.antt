@@ -4,9 +4,8 @@ use Rattle.std.specs.Ordering.{int_eq}
 use Rattle.std.specs.Str.{is_utf8}
 use Rattle.serde_json.specs.Data.{Data}
 use Rattle.serde_json.specs.Read.{read}
-use Rattle.tf_provider_protocol.specs.Meaning.{Asked}
 use Rattle.tf_provider_log.specs.LogEntry.{LogEntryView, HeaderView}
-use Rattle.tf_provider_log.specs.From.{entry_from, header_from, request_from, version_of}
+use Rattle.tf_provider_log.specs.From.{entry_from, header_from, version_of}
 use Rattle.tf_provider_log.specs.declared.fault.LineFault.{LineFault}
 use Rattle.tf_provider_log.specs.declared.fault.LineFault.TheVariants.{NotAHeader, UnknownVersion}
 
@@ -58,16 +57,4 @@ pub record IsHeaderLine (header : HeaderView) (text : List ℕ) : Type 0 where
   pub line : List ℕ
   pub in_line : All IsInLine line
   pub tells : header_in line ≡ Some header
-  pub is_text : text ≡ line ++ 10 ∷ []
-
--- the request that a line says as JSON
-abbrev pub request_in : List ℕ → Option Asked
-request_in line = option_and_then request_from (tree_in line)
-
--- A text is the line of a request: it ends with the only newline in it, and what is before that says exactly the
--- request.
-pub record IsRequestLine (request : Asked) (text : List ℕ) : Type 0 where
-  pub line : List ℕ
-  pub in_line : All IsInLine line
-  pub tells : request_in line ≡ Some request
   pub is_text : text ≡ line ++ 10 ∷ []

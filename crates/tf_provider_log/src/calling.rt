@@ -62,14 +62,6 @@ impl<'a> Begun<'a> {
     {
         Begun { request }
     }
-
-    /// Returns the request, to be sent to a provider outside the program. This spends the right to call a provider with it.
-    pub(crate) fn into_request(self) -> &'a Request
-        ensures { result.now ≡ self.entry.request.now }
-    {
-        let Begun { request } = self;
-        request
-    }
 }
 
 impl<P: Provider> Guarded<P> {

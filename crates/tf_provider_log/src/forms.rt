@@ -99,7 +99,7 @@ pub fn op_word(op: Op) -> &'static str
 }
 
 /// Builds the form of a request.
-pub(crate) fn request_form(alloc: Global, request: &Request) -> Result<Json, AllocError>
+fn request_form(alloc: Global, request: &Request) -> Result<Json, AllocError>
     ensures held { OnOk result (IsRequestHeld (asked request.now)) }
     ensures value { IfOk result (λ j. view j ≡ request_form (asked request.now)) }
 {

@@ -35,7 +35,7 @@ pub use forms::op_word;
 pub use laws::beginnings_are_read;
 pub use logged::Logged;
 pub use open_log::{NotStarted, OpenLog};
-pub use outside::Announced;
+pub use outside::{Announced, BegunLine};
 pub use parts::text_from;
 pub use reading::{next_line, read_log, read_tree};
 pub use replay_laws::{
@@ -45,4 +45,4 @@ pub use replaying::Replayed;
 pub use same::is_same_text;
 pub use shared::providers_are_shared;
 pub use sink::{Durability, NotAdded, Sink};
-pub use writing::{answered_line, begun_line, header_line, request_line};
+pub use writing::{answered_line, begun_line, header_line};

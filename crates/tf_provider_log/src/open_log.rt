@@ -69,7 +69,7 @@ impl<S: Sink> OpenLog<S> {
     /// Starts the log, with the line that says the inputs of the apply. After that, requests can be begun. A log is
     /// started only once.
     pub fn start(&self, alloc: Global, header: &Header) -> Result<(), NotStarted> {
-        if self.is_open.load(Ordering::SeqCst) {
+        if self.is_open() {
             return Err(NotStarted::NotWritten);
         }
         let Ok(line) = header_line(alloc, header) else {
@@ -82,6 +82,11 @@ impl<S: Sink> OpenLog<S> {
             }
             Err(_) => Err(NotStarted::NotWritten),
         }
+    }
+
+    /// Returns whether the log is started, so that requests can be begun.
+    pub(crate) fn is_open(&self) -> bool {
+        self.is_open.load(Ordering::SeqCst)
     }
 
     /// Returns whether a line couldn't be written or synced. Then the log may not say all that was done.
@@ -111,7 +116,7 @@ impl<S: Sink> OpenLog<S> {
     ) -> Result<Begun<'a>, NotBegun>
         ensures { IfOk result (λ begun. begun.request.now ≡ request.now) }
     {
-        if !self.is_open.load(Ordering::SeqCst) {
+        if !self.is_open() {
             return Err(NotBegun);
         }
         let Ok(line) = begun_line(alloc, request) else {

@@ -1,20 +1,39 @@
 //! The lines of calls of providers outside the program, whose replies come later.
 
-ghost use Rattle.std.specs.Prelude.{◌≡◌, IfOk};
+ghost use Rattle.std.specs.Prelude.{◌≡◌, IfOk, map};
+ghost use Rattle.tf_provider_log.specs.Line.{IsEntryLine};
+ghost use Rattle.tf_provider_log.specs.LogEntry.{begun};
+ghost use Rattle.tf_provider_protocol.specs.Meaning.{asked};
 
 use crate::fault::Unwritten;
-use crate::lines::Telling;
+use crate::lines::{Added, Telling};
 use crate::open_log::OpenLog;
 use crate::sink::{NotAdded, Sink};
-use crate::writing::answered_line;
+use crate::writing::{answered_line, begun_line};
 use std::alloc::Global;
 use tf_provider_protocol::{Reply, Request};
 
-/// A request that the log on the disk says is begun, so that it may be sent to a provider outside the program. Only
-/// the request's synced line creates one, and it can't be copied.
+/// A request that the log says is begun, perhaps not on the disk yet. Only the request's line creates one, and it can't be copied.
+#[derive(Drop)]
+pub struct BegunLine<'a> {
+    request: &'a Request,
+}
+
+/// A request that the log on the disk says is begun, so that it may be sent to a provider outside the program. Only a
+/// sync after the request's line creates one, and it can't be copied.
 #[derive(Drop)]
 pub struct Announced<'a> {
     request: &'a Request,
+}
+
+impl<'a> BegunLine<'a> {
+    /// Returns the evidence that the log says that a request is begun, given the line.
+    fn by(request: &'a Request, _added: Added<'_>) -> BegunLine<'a>
+        requires { IsEntryLine (begun (asked request.now)) _added.text.now }
+        ensures { result.request.now ≡ request.now }
+    {
+        BegunLine { request }
+    }
 }
 
 impl<'a> Announced<'a> {
@@ -43,25 +62,52 @@ impl<'a> Telling for Received<'a> {
 }
 
 impl<S: Sink> OpenLog<S> {
-    /// Writes that a request is begun and syncs the log, so that the request may be sent.
+    /// Writes that a request is begun. Its line is on the disk after the next sync.
     ///
     /// # Errors
     ///
     /// Fails if the log isn't started or is lost, if no line can be built for the request, or if the line can't be
-    /// written or synced; in the last case the log is lost.
-    pub fn announce<'a>(
+    /// written; in the last case the log is lost.
+    pub fn write_begun<'a>(
         &self,
         alloc: Global,
         request: &'a Request,
-    ) -> Result<Announced<'a>, NotAdded>
-        ensures { IfOk result (λ announced. announced.request.now ≡ request.now) }
+    ) -> Result<BegunLine<'a>, NotAdded>
+        ensures { IfOk result (λ written. written.request.now ≡ request.now) }
     {
-        match self.begin(alloc, request) {
-            Ok(begun) => Ok(Announced {
-                request: begun.into_request(),
-            }),
+        if !self.is_open() {
+            return Err(NotAdded);
+        }
+        let Ok(line) = begun_line(alloc, request) else {
+            return Err(NotAdded);
+        };
+        match self.lines.add(request, line.as_str()) {
+            Ok(added) => Ok(BegunLine::by(request, added)),
             Err(_) => Err(NotAdded),
         }
+    }
+
+    /// Syncs the log, and with it the lines of these requests, so that the requests may be sent.
+    ///
+    /// # Errors
+    ///
+    /// Fails if memory runs out, or if the log can't be synced; in the second case the log is lost.
+    pub fn announce<'a>(
+        &self,
+        alloc: Global,
+        written: Vec<BegunLine<'a>>,
+    ) -> Result<Vec<Announced<'a>>, NotAdded>
+        ensures { IfOk result (λ announced. map (λ a. a.request.now) announced.items ≡ map (λ w. w.request.now) written.entry.items) }
+    {
+        self.sync()?;
+        let mut announced = Vec::new(alloc);
+        for line in written {
+            let BegunLine { request } = line;
+            if announced.push(Announced { request }).is_err() {
+                return Err(NotAdded);
+            }
+        }
+        Ok(announced)
     }
 
     /// Writes the reply that came for a request. Its line is on the disk after the next sync.

@@ -6,14 +6,14 @@ ghost use Rattle.serde_json.specs.Read.{max_depth};
 ghost use Rattle.serde_json.specs.View.{view};
 ghost use Rattle.tf_provider_log.specs.LogEntry.{begun, replied};
 ghost use Rattle.tf_provider_log.specs.Fit.{request_fits, answer_fits, IsUnwritten};
-ghost use Rattle.tf_provider_log.specs.Line.{IsEntryLine, IsHeaderLine, IsRequestLine};
+ghost use Rattle.tf_provider_log.specs.Line.{IsEntryLine, IsHeaderLine};
 ghost use Rattle.tf_provider_log.specs.Text.{IsSimple, IsTreeLine};
 ghost use Rattle.tf_provider_protocol.specs.Meaning.{asked, answered};
 
 use crate::entry::Header;
 use crate::fault::Unwritten;
 use crate::fit::{both_fit, request_fits};
-use crate::forms::{answered_form, begun_form, header_form, request_form};
+use crate::forms::{answered_form, begun_form, header_form};
 use serde_json::Value as Json;
 use std::alloc::{AllocError, Global};
 use tf_provider_protocol::{Reply, Request};
@@ -54,21 +54,6 @@ pub fn answered_line(alloc: Global, request: &Request, reply: &Reply) -> Result<
         return Err(Unwritten::Unfit);
     }
     let form = answered_form(alloc, request, reply)?;
-    let line = line_of(alloc, &form)?;
-    Ok(line)
-}
-
-/// Builds a line with a request as JSON, with its newline, for a user who has to find out what happened to it. Fails
-/// with `Unfit` exactly if a value of it holds a set or is more than 100 deep, and otherwise only if memory runs out.
-pub fn request_line(alloc: Global, request: &Request) -> Result<String, Unwritten>
-    ensures ok { IfOk result (λ text. IsRequestLine (asked request.now) (string_bytes text)) }
-    ensures fits { OnOk result (request_fits (asked request.now) ≡ true) }
-    ensures err { IfErr result (IsUnwritten (request_fits (asked request.now))) }
-{
-    if !request_fits(request) {
-        return Err(Unwritten::Unfit);
-    }
-    let form = request_form(alloc, request)?;
     let line = line_of(alloc, &form)?;
     Ok(line)
 }

@@ -15,8 +15,8 @@ pub struct Flight {
     pub id: u64,
     /// The number of the provider that it was sent to.
     pub provider: usize,
-    /// How many bytes its line has.
-    pub size: usize,
+    /// Its line.
+    pub line: String,
     /// The request.
     pub request: Request,
 }
@@ -62,19 +62,30 @@ impl Flights {
         self.flights.as_slice()
     }
 
-    /// Returns whether a line of this size may be sent, if at most `most` requests may be in flight.
-    pub fn has_room(&self, most: usize, size: usize) -> bool {
-        if self.flights.is_empty() {
+    /// Returns whether a line of this size may be sent after these requests, which wait, if at most `most` requests may be in flight.
+    pub fn has_room(&self, waiting: &Flights, most: usize, size: usize) -> bool {
+        let count = self.flights.len().saturating_add(waiting.flights.len());
+        if count == 0 {
             return true;
         }
-        if self.flights.len() >= most {
-            return false;
-        }
-        let mut bytes = size;
+        let ahead = self.bytes().saturating_add(waiting.bytes());
+        count < most && ahead.saturating_add(size) <= MOST_BYTES
+    }
+
+    /// Returns how many bytes the lines have.
+    fn bytes(&self) -> usize {
+        let mut bytes = 0;
         for flight in &self.flights {
-            bytes = bytes.saturating_add(flight.size);
+            bytes = flight.line.len().saturating_add(bytes);
         }
-        bytes <= MOST_BYTES
+        bytes
+    }
+
+    /// Returns the requests as a vector.
+    pub fn into_list(self) -> Vec<Flight>
+        ensures { result ≡ self.flights }
+    {
+        self.flights
     }
 
     /// Returns whether the same call is in flight: the same operation on the same object.

@@ -78,13 +78,14 @@ fn types_from(
     let mut types = Vec::new(alloc);
     for (name, json) in members.iter() {
         let name = name.clone()?;
-        match schema_from(alloc, json)? {
-            Some(schema) => types.push(RemoteType {
+        match (schema_from(alloc, json)?, flag_from(json, "idempotent")) {
+            (Some(schema), Some(idempotent)) => types.push(RemoteType {
                 provider,
                 name,
                 schema,
+                idempotent,
             })?,
-            None => return Err(SchemasFault::NotASchema(name)),
+            _ => return Err(SchemasFault::NotASchema(name)),
         }
     }
     Ok(types)

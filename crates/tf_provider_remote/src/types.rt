@@ -3,7 +3,7 @@
 ghost use Rattle.std.specs.Arc.{arc_value};
 ghost use Rattle.std.specs.Prelude.{◌≡◌, IfOk, find, map, option_map};
 ghost use Rattle.std.specs.Str.{bytes_eq};
-ghost use Rattle.tf_provider_remote.specs.Types.{remote_meaning, type_of};
+ghost use Rattle.tf_provider_remote.specs.Types.{is_idempotent, remote_meaning, type_of};
 
 use std::alloc::{AllocError, Global};
 use std::sync::Arc;
@@ -18,6 +18,8 @@ pub struct RemoteType {
     pub name: String,
     /// Its schema.
     pub schema: Schema,
+    /// Whether a request does no harm if it is made twice.
+    pub idempotent: bool,
 }
 
 /// The types of all providers that are other programs, as one provider. The first type of a name counts. It calls
@@ -50,6 +52,17 @@ impl RemoteTypes {
         match named(types.as_slice(), type_name) {
             Some(found) => Some(found.provider),
             None => None,
+        }
+    }
+
+    /// Returns whether a request of a type does no harm if it is made twice, by what the provider of the type says.
+    pub fn is_idempotent(&self, type_name: &str) -> bool
+        ensures { result ≡ is_idempotent type_name.now (map type_of (arc_value self.now.types).items) }
+    {
+        let types: &Vec<RemoteType> = &self.types;
+        match named(types.as_slice(), type_name) {
+            Some(found) => found.idempotent,
+            None => false,
         }
     }
 }

@@ -7,6 +7,6 @@ use Rattle.tf_provider_protocol.specs.Meaning.{Asked}
 use Rattle.tf_provider_remote.specs.Flights.{has_call}
 use Rattle.tf_recovery.specs.declared.session.Session.{Session}
 
--- a request is in flight, or has ended
+-- a request waits, is in flight, or has ended
 abbrev pub has_begun : Asked → Session → Bool
-has_begun q s = has_call q s.flights.flights.items || list_any (is_about q) (map log_entry_of s.entries.items)
+has_begun q s = (has_call q s.waiting.flights.items || has_call q s.flights.flights.items) || list_any (is_about q) (map log_entry_of s.entries.items)

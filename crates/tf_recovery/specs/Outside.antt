@@ -1,5 +1,5 @@
--- An apply with providers outside the program.
-use Rattle.std.specs.Prelude.{List, ◌∷◌, Result, Ok, Err, string_bytes}
+-- The providers of the programs, as they answer from a log, and an apply with these.
+use Rattle.std.specs.Prelude.{List, [], ◌∷◌, Result, Ok, Err, string_bytes}
 use Rattle.tf_cli.specs.Applies.{IsApplied}
 use Rattle.tf_cli.specs.Refusals.{AreRefusals}
 use Rattle.tf_cli_files.specs.declared.given.ProgramInput.{ProgramInput}
@@ -7,10 +7,15 @@ use Rattle.tf_cli_program.specs.Work.{texts_of}
 use Rattle.tf_cli_text.specs.declared.applied.Applied.{Applied}
 use Rattle.tf_plan_planner.specs.Refused.{Tells}
 use Rattle.tf_plan_planner.specs.declared.refused.Refused.{Refused}
+use Rattle.tf_provider_local.specs.Answers.{file_meaning}
 use Rattle.tf_provider_log.specs.LogEntry.{LogEntryView}
 use Rattle.tf_provider_log.specs.Replayed.{all_replayed, own_entries}
 use Rattle.tf_provider_protocol.specs.Meaning.{Meaning}
-use Rattle.tf_recovery.specs.Replayed.{program_meanings}
+use Rattle.tf_provider_sim.specs.Table.{sim_meaning}
+
+-- the program's own providers, in their order
+abbrev pub program_meanings : List Meaning
+program_meanings = sim_meaning ∷ file_meaning ∷ []
 
 -- the providers outside the program, as one, and then its own
 abbrev pub outside_meanings : Meaning → List Meaning

@@ -1,9 +1,15 @@
 //! The work of `apply`.
 
 use crate::approving::AtTerminal;
+use crate::carrying::check_pipes;
 use crate::explaining::{explains, sources, warn};
+use crate::failures::failure_lines;
 use crate::outside::apply_outside;
+use crate::planning::check_forms;
 use crate::recovering::recover;
+use crate::remotes::read_types;
+use crate::repeating::repeat_idempotent;
+use crate::reporting::{begin_events, end_events, writer};
 use crate::settling::settle;
 use std::alloc::AllocError;
 use std::fs::File;
@@ -12,16 +18,21 @@ use std::process::ExitCode;
 use std::sync::{Arc, Wait};
 use std::thread::Threads;
 use std::{env, io};
-use tf_cli_files::{CallControl, Place, ProgramInput, Seen, StopFile, hold};
+use tf_cli_events::{Diagnosed, Events};
+use tf_cli_files::{CallControl, LogSink, Place, ProgramInput, Seen, StopFile, Stopping, hold};
+use tf_cli_lines::save;
 use tf_cli_options::Options;
 use tf_cli_program::carry_out_logged;
 use tf_explain::Explained;
 use tf_provider::Provider;
 use tf_provider_local::LocalFile;
+use tf_provider_log::Logged;
 use tf_provider_progress::{Progress, StatusLine};
+use tf_provider_remote::RemoteTypes;
 use tf_provider_sim::Sim;
 
-/// Recovers an unfinished apply, if there is one, then applies, and returns the program's status.
+/// Recovers an unfinished apply, if there is one, then applies, and returns the program's status. With `--json`, standard output
+/// has what happens as JSON, one event a line.
 ///
 /// # Errors
 ///
@@ -33,9 +44,31 @@ pub fn apply<T: Threads + Wait + Sync, O: Write, E: Write>(
     out: &mut O,
     err: &mut E,
 ) -> io::Result<ExitCode> {
-    if !options.providers.is_empty() {
-        return apply_outside(rt, threads, options, out, err);
+    if let Err(status) = check_forms(&options, err) {
+        return Ok(status);
     }
+    let has_events = options.json;
+    let state = options.state.clone()?;
+    begin_events(rt, has_events);
+    let mut out = Events::new(rt.alloc(), out, *rt, has_events);
+    let mut err = Diagnosed::new(rt.alloc(), err, writer(rt, has_events), *rt);
+    let status = apply_given(rt, threads, options, &mut out, &mut err)?;
+    end_events(rt, &out, state.as_str());
+    Ok(status)
+}
+
+/// Recovers an unfinished apply, if there is one, then applies, and returns the program's status.
+fn apply_given<T: Threads + Wait + Sync, O: Write, E: Write>(
+    rt: &HostRuntime,
+    threads: &T,
+    options: Options,
+    out: &mut O,
+    err: &mut E,
+) -> io::Result<ExitCode> {
+    let types = match outside_types(rt, &options, err) {
+        Ok(types) => types,
+        Err(status) => return Ok(status),
+    };
     let (seen, file) = match hold(rt, options, err) {
         Ok(held) => held,
         Err(status) => return Ok(status),
@@ -45,16 +78,44 @@ pub fn apply<T: Threads + Wait + Sync, O: Write, E: Write>(
         place,
         past,
     } = seen;
-    let past = match settle(rt, &place, &file, &given, None, past, err) {
+    let past = repeat_idempotent(rt.alloc(), &types, past, err)?;
+    let past = match settle(rt, &types, &place, &file, &given, past, err) {
         Ok(past) => past,
         Err(status) => return Ok(status),
     };
-    let recovered = recover(rt, &place, &file, &mut given, past, out, err)?;
+    let failures = failure_lines(rt.alloc(), &given, &past)?;
+    let recovered = recover(rt, &types, &place, &file, &mut given, past, out, err)?;
     if let Err(status) = recovered {
         return Ok(status);
     }
+    let _ = save(err, failures.as_str());
+    if in_session(&given.options) {
+        return apply_outside(rt, threads, types, &place, file, &given, out, err);
+    }
     let file = Arc::new(rt.alloc(), file)?;
     apply_by(rt, threads, &place, &file, &given, out, err)
+}
+
+/// Returns whether one thread makes the calls, one after another or by pipes: with providers outside the program, and with events,
+/// unless the apply stops after a number of calls.
+fn in_session(options: &Options) -> bool {
+    !options.providers.is_empty() || (options.json && options.stop_after.is_none())
+}
+
+/// Reads the types of the providers outside the program, and checks that their pipes are there. If they aren't, or if the options don't
+/// go with such providers, prints that and returns the program's status.
+fn outside_types<E: Write>(
+    rt: &HostRuntime,
+    options: &Options,
+    err: &mut E,
+) -> Result<RemoteTypes, ExitCode> {
+    if options.stop_after.is_some() && !options.providers.is_empty() {
+        let _ = writeln!(err, "error: --stop-after cannot be used with --provider");
+        return Err(ExitCode::FAILURE);
+    }
+    let types = read_types(rt, &options.providers, err)?;
+    check_pipes(rt, &options.providers, err)?;
+    Ok(types)
 }
 
 /// Applies with `sim` and `local_file`, whose calls are logged, counted for `--stop-after`, and printed if that is asked for.
@@ -71,16 +132,39 @@ fn apply_by<T: Threads + Wait + Sync, O: Write, E: Write>(
     let stop_file = stop_file(rt, given)?;
     let stop_after = given.options.stop_after;
     let control = CallControl::new(alloc, Arc::try_clone(file)?, stop_after, stop_file)?;
-    let sim = control.wrap(alloc, Sim::new(alloc)?)?;
-    let reserved = place.own_files(alloc, &given.options)?;
-    let local_file = control.wrap(alloc, LocalFile::with_reserved(alloc, *rt, reserved)?)?;
-    let status = Arc::new(alloc, StatusLine::new(alloc))?;
+    let WatchedProviders { sim, files } = watched_providers(rt, place, given, &control)?;
     let mut providers: Vec<Box<dyn Provider + Sync>> = Vec::new(alloc);
-    providers.push(Box::new(alloc, with_progress(rt, given, &status, sim)?)?)?;
-    providers.push(Box::new(alloc, with_progress(rt, given, &status, local_file)?)?)?;
+    providers.push(Box::new(alloc, sim)?)?;
+    providers.push(Box::new(alloc, files)?)?;
     Ok(carry_out_by(
         rt, threads, place, file, &control, given, &providers, out, err,
     ))
+}
+
+/// A provider whose calls are logged, counted and printed.
+type Watched<P> = Progress<Logged<Stopping<P>, LogSink<File>>, Stderr, HostRuntime>;
+
+/// The providers of an apply.
+struct WatchedProviders {
+    sim: Watched<Sim>,
+    files: Watched<LocalFile<HostRuntime>>,
+}
+
+/// Returns the providers of an apply, whose calls this control counts and logs.
+fn watched_providers(
+    rt: &HostRuntime,
+    place: &Place,
+    given: &ProgramInput,
+    control: &CallControl<File>,
+) -> io::Result<WatchedProviders> {
+    let alloc = rt.alloc();
+    let status = Arc::new(alloc, StatusLine::new(alloc))?;
+    let sim = control.wrap(alloc, Sim::new(alloc)?)?;
+    let sim = with_progress(rt, given, &status, sim)?;
+    let reserved = place.own_files(alloc, &given.options)?;
+    let files = control.wrap(alloc, LocalFile::with_reserved(alloc, *rt, reserved)?)?;
+    let files = with_progress(rt, given, &status, files)?;
+    Ok(WatchedProviders { sim, files })
 }
 
 /// Returns the file that stops the apply, if the options name one.

@@ -100,7 +100,33 @@ pub(crate) fn finish<O: Write, E: Write>(
     let _ = show_rest(printed, &answer, out, err);
     drop(state_to_write(answer));
     tell_flights(rt, session, err);
+    if are_repeated(session) {
+        return tell_repeated(place, err);
+    }
     ask_for_results(place, err)
+}
+
+/// Returns whether all requests in flight are of idempotent types.
+fn are_repeated(session: &Session) -> bool {
+    for flight in session.flights.list() {
+        if !session
+            .types
+            .is_idempotent(flight.request.type_name.as_str())
+        {
+            return false;
+        }
+    }
+    true
+}
+
+/// Prints that the next apply makes the requests in flight again. Returns the program's status, 2.
+fn tell_repeated<E: Write>(place: &Place, err: &mut E) -> ExitCode {
+    let _ = writeln!(
+        err,
+        "error: {} has calls whose results are not known. Their types are idempotent, so run apply again",
+        place.log
+    );
+    ExitCode::from(2)
 }
 
 /// Prints which requests are in flight.

@@ -21,7 +21,7 @@ pub(crate) fn sources<'a>(
             name: given.options.config.as_str(),
             bytes: given.config.as_slice(),
         },
-        vars: file(given.options.vars.as_ref(), given.vars_bytes()),
+        vars: file(given.vars_name.as_ref(), given.vars_bytes()),
         state: file(Some(&place.state), given.state_bytes()),
         providers,
     }

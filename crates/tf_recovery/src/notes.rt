@@ -8,7 +8,7 @@ use std::alloc::{AllocError, Global};
 use std::sync::{Arc, Mutex};
 use tf_provider::Provider;
 use tf_provider_log::{
-    Durability, Header, LogEntry, NotAdded, OpenLog, Replayed, Sink, read_log, request_line,
+    Durability, Header, LogEntry, NotAdded, OpenLog, Replayed, Sink, begun_line, read_log,
 };
 use tf_provider_protocol::{Reply, Request, Schema};
 
@@ -45,10 +45,8 @@ impl Notes {
 
     /// Adds the line that a request is begun, if there is memory for it.
     fn note(&self, alloc: Global, request: &Request) {
-        if let Ok(line) = request_line(alloc, request)
-            && let Ok(text) = format!(in alloc; "{{\"begun\":{}}}\n", line.trim_end())
-        {
-            let _ = self.add(text.as_str(), Durability::Written);
+        if let Ok(line) = begun_line(alloc, request) {
+            let _ = self.add(line.as_str(), Durability::Written);
         }
     }
 

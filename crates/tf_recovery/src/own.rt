@@ -4,7 +4,6 @@ ghost use Rattle.std.specs.Prelude.{◌≡◌, ◌∷◌, [], IfOk, map};
 ghost use Rattle.tf_provider_log.specs.LogEntry.{log_entry_of};
 ghost use Rattle.tf_provider_log.specs.Replayed.{own_entries};
 ghost use Rattle.tf_recovery.specs.Outside.{outside_meanings};
-ghost use Rattle.tf_recovery.specs.Replayed.{program_meanings};
 
 use std::alloc::AllocError;
 use tf_provider::Provider;
@@ -13,30 +12,12 @@ use tf_provider_log::{LogEntry, split};
 use tf_provider_remote::RemoteTypes;
 use tf_provider_sim::Sim;
 
-/// Splits the entries of a log into those of `sim` and those of `local_file`.
-///
-/// # Errors
-///
-/// Only if memory runs out.
-pub(crate) fn own_entries(
-    rt: &HostRuntime,
-    entries: Vec<LogEntry>,
-) -> Result<Vec<Vec<LogEntry>>, AllocError>
-    ensures { IfOk result (λ lists. map (λ own. map log_entry_of own.items) lists.items ≡ own_entries program_meanings (map log_entry_of entries.items)) }
-{
-    let alloc = rt.alloc();
-    let mut providers: Vec<Box<dyn Provider + Sync>> = Vec::new(alloc);
-    providers.push(Box::new(alloc, Sim::new(alloc)?)?)?;
-    providers.push(Box::new(alloc, LocalFile::new(alloc, *rt)?)?)?;
-    split(alloc, entries, &providers)
-}
-
 /// Splits the entries of a log into those of the providers outside the program, of `sim` and of `local_file`.
 ///
 /// # Errors
 ///
 /// Only if memory runs out.
-fn own_entries_outside(
+fn own_entries(
     rt: &HostRuntime,
     types: &RemoteTypes,
     entries: Vec<LogEntry>,
@@ -76,7 +57,7 @@ pub(crate) fn entries_by_provider(
         ≡ own_entries (outside_meanings (⟦<RemoteTypes as Provider>⟧.meaning types.now)) (map log_entry_of entries.items)) }
 {
     let alloc = rt.alloc();
-    let own = own_entries_outside(rt, types, entries)?;
+    let own = own_entries(rt, types, entries)?;
     let mut lists = own.into_iter();
     let remote = lists.next().unwrap_or(Vec::new(alloc));
     let sim = lists.next().unwrap_or(Vec::new(alloc));

@@ -2,8 +2,8 @@
 
 use crate::approving::colours;
 use crate::explaining::{explains, sources, warn};
-use crate::outside::plan_outside;
-use crate::previewing::preview;
+use crate::recovering::preview;
+use crate::remotes::read_types;
 use std::io;
 use std::io::Write;
 use std::process::ExitCode;
@@ -29,9 +29,10 @@ pub fn plan<O: Write, E: Write>(
     if let Err(status) = check_forms(&options, err) {
         return Ok(status);
     }
-    if !options.providers.is_empty() {
-        return plan_outside(rt, options, out, err);
-    }
+    let types = match read_types(rt, &options.providers, err) {
+        Ok(types) => types,
+        Err(status) => return Ok(status),
+    };
     let seen = match see(rt, options, err) {
         Ok(seen) => seen,
         Err(status) => return Ok(status),
@@ -41,17 +42,19 @@ pub fn plan<O: Write, E: Write>(
         place,
         past,
     } = seen;
-    if let Err(status) = preview(rt, &place, &mut given, past, err)? {
+    if let Err(status) = preview(rt, &types, &place, &mut given, past, err)? {
         return Ok(status);
     }
-    let mut providers: Vec<Box<dyn Provider + Sync>> = Vec::new(rt.alloc());
-    providers.push(Box::new(rt.alloc(), Sim::new(rt.alloc())?)?)?;
-    providers.push(Box::new(rt.alloc(), LocalFile::new(rt.alloc(), *rt)?)?)?;
+    let alloc = rt.alloc();
+    let mut providers: Vec<Box<dyn Provider + Sync>> = Vec::new(alloc);
+    providers.push(Box::new(alloc, types)?)?;
+    providers.push(Box::new(alloc, Sim::new(alloc)?)?)?;
+    providers.push(Box::new(alloc, LocalFile::new(alloc, *rt)?)?)?;
     Ok(print_given(rt, &place, &given, &providers, out, err))
 }
 
 /// Checks that the options ask for one form of the plan. If they ask for two, prints that, and returns the program's status, 1.
-fn check_forms<E: Write>(options: &Options, err: &mut E) -> Result<(), ExitCode> {
+pub(crate) fn check_forms<E: Write>(options: &Options, err: &mut E) -> Result<(), ExitCode> {
     let forms = [
         (options.graph.is_some(), "--graph"),
         (options.json, "--json"),
@@ -72,7 +75,7 @@ fn check_forms<E: Write>(options: &Options, err: &mut E) -> Result<(), ExitCode>
 }
 
 /// Prints the warnings, and the plan with these providers in the form that the options ask for.
-pub(crate) fn print_given<O: Write, E: Write>(
+fn print_given<O: Write, E: Write>(
     rt: &HostRuntime,
     place: &Place,
     given: &ProgramInput,

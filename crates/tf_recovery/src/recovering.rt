@@ -1,31 +1,82 @@
-//! Recovery for `apply`.
+//! Recovery of an unfinished apply, with providers that answer from its log.
 
-ghost use Rattle.std.specs.Prelude.{◌≡◌, None, IsOk, IfOk, IfSome, map};
+ghost use Rattle.std.specs.Prelude.{◌≡◌, ◌∷◌, [], None, IsOk, IfErr, IfOk, IfSome, map};
+ghost use Rattle.tf_cli_files.specs.Program.{IsFailure};
 ghost use Rattle.tf_cli_program.specs.Recovery.{ContinuesFrom, IsInspected};
 ghost use Rattle.tf_provider_log.specs.LogEntry.{log_entry_of};
-ghost use Rattle.tf_recovery.specs.Replayed.{replayed_from};
+ghost use Rattle.tf_recovery.specs.Outside.{outside_replayed};
 
-use crate::own::own_entries;
+use crate::own::{OwnEntries, entries_by_provider};
 use std::alloc::AllocError;
 use std::fs::File;
 use std::io::Write;
 use std::process::ExitCode;
-use tf_cli_files::{Past, Place, ProgramInput, both_replayed};
-use tf_cli_program::finish_recovery;
+use tf_cli_files::{Past, Place, ProgramInput};
+use tf_cli_program::{finish_recovery, preview_recovery};
 use tf_provider::Provider;
 use tf_provider_local::LocalFile;
-use tf_provider_log::LogEntry;
+use tf_provider_log::{LogEntry, Replayed};
+use tf_provider_remote::RemoteTypes;
 use tf_provider_sim::Sim;
 
+/// Recovers the state that an unfinished apply left, if there is one, and plans from it: `given` then has that state in place of
+/// its own. The providers outside the program have these types. Writes no file. Returns the program's status, 1, if the program
+/// can't continue; the reason is then on standard error.
+///
+/// # Errors
+///
+/// Fails only if memory runs out.
+pub fn preview<E: Write>(
+    rt: &HostRuntime,
+    types: &RemoteTypes,
+    place: &Place,
+    given: &mut ProgramInput,
+    past: Option<(Past, Vec<LogEntry>)>,
+    err: &mut E,
+) -> Result<Result<(), ExitCode>, AllocError>
+    ensures none { past ≡ None → IsOk result × IfOk result (λ answer. IsOk answer) × (given.new ≡ given.old) }
+    ensures recovered { IfOk result (λ answer. IfOk answer (λ _. IfSome past (λ log. ContinuesFrom (outside_replayed (⟦<RemoteTypes as Provider>⟧.meaning types.now) (map log_entry_of log.1.items)) log.0 given.old given.new))) }
+    ensures status { IfOk result (λ answer. IfErr answer IsFailure) }
+{
+    match past {
+        None => Ok(Ok(())),
+        Some((past, entries)) => preview_by(rt, types, place, given, &past, entries, err),
+    }
+}
+
+/// Recovers the state for `plan`, with providers that each answer from their own entries of the log.
+fn preview_by<E: Write>(
+    rt: &HostRuntime,
+    types: &RemoteTypes,
+    place: &Place,
+    given: &mut ProgramInput,
+    past: &Past,
+    entries: Vec<LogEntry>,
+    err: &mut E,
+) -> Result<Result<(), ExitCode>, AllocError>
+    ensures recovered { IfOk result (λ answer. IfOk answer (λ _. ContinuesFrom (outside_replayed (⟦<RemoteTypes as Provider>⟧.meaning types.now) (map log_entry_of entries.items)) past.now given.old given.new)) }
+    ensures status { IfOk result (λ answer. IfErr answer IsFailure) }
+{
+    let alloc = rt.alloc();
+    let ReplayedProviders { remote, sim, files } = replayed_providers(rt, types, entries)?;
+    let mut providers: Vec<Box<dyn Provider + Sync>> = Vec::new(alloc);
+    providers.push(Box::new(alloc, remote)?)?;
+    providers.push(Box::new(alloc, sim)?)?;
+    providers.push(Box::new(alloc, files)?)?;
+    Ok(preview_recovery(alloc, place, given, past, providers.as_slice(), err))
+}
+
 /// Recovers the state that an unfinished apply left, if there is one, writes it and empties the log, which is `file`: `given`
-/// then has that state in place of its own. Returns the program's status if the program can't continue, or if a call is in flight
-/// and the options don't say that it wasn't made; the reason is then on standard error.
+/// then has that state in place of its own. The providers outside the program have these types. Returns the program's status if
+/// the program can't continue, or if a call is in flight and the options don't say that it wasn't made; the reason is then on
+/// standard error.
 ///
 /// # Errors
 ///
 /// Fails only if memory runs out.
 pub fn recover<O: Write, E: Write>(
     rt: &HostRuntime,
+    types: &RemoteTypes,
     place: &Place,
     file: &File,
     given: &mut ProgramInput,
@@ -34,20 +85,21 @@ pub fn recover<O: Write, E: Write>(
     err: &mut E,
 ) -> Result<Result<(), ExitCode>, AllocError>
     ensures none { past ≡ None → IsOk result × IfOk result (λ answer. IsOk answer) × (given.new ≡ given.old) }
-    ensures recovered { IfOk result (λ answer. IfOk answer (λ _. IfSome past (λ log. ContinuesFrom (replayed_from (map log_entry_of log.1.items)) log.0 given.old given.new))) }
+    ensures recovered { IfOk result (λ answer. IfOk answer (λ _. IfSome past (λ log. ContinuesFrom (outside_replayed (⟦<RemoteTypes as Provider>⟧.meaning types.now) (map log_entry_of log.1.items)) log.0 given.old given.new))) }
     ensures looked { IfOk result (λ answer. IfOk answer (λ _. IfSome past (λ log. IsInspected log.0 given.old.options))) }
 {
     match past {
         None => Ok(Ok(())),
         Some((past, entries)) => {
-            recover_replayed(rt, place, file, given, &past, entries, out, err)
+            recover_by(rt, types, place, file, given, &past, entries, out, err)
         }
     }
 }
 
-/// Recovers the state with providers that each answer from their own entries of the log.
-fn recover_replayed<O: Write, E: Write>(
+/// Recovers the state for `apply`, with providers that each answer from their own entries of the log.
+fn recover_by<O: Write, E: Write>(
     rt: &HostRuntime,
+    types: &RemoteTypes,
     place: &Place,
     file: &File,
     given: &mut ProgramInput,
@@ -56,14 +108,38 @@ fn recover_replayed<O: Write, E: Write>(
     out: &mut O,
     err: &mut E,
 ) -> Result<Result<(), ExitCode>, AllocError>
-    ensures recovered { IfOk result (λ answer. IfOk answer (λ _. ContinuesFrom (replayed_from (map log_entry_of entries.items)) past.now given.old given.new)) }
+    ensures recovered { IfOk result (λ answer. IfOk answer (λ _. ContinuesFrom (outside_replayed (⟦<RemoteTypes as Provider>⟧.meaning types.now) (map log_entry_of entries.items)) past.now given.old given.new)) }
     ensures looked { IfOk result (λ answer. IfOk answer (λ _. IsInspected past.now given.old.options)) }
 {
     let alloc = rt.alloc();
-    let own = own_entries(rt, entries)?;
-    let (sim, files) = both_replayed(alloc, own, Sim::new(alloc)?, LocalFile::new(alloc, *rt)?);
+    let ReplayedProviders { remote, sim, files } = replayed_providers(rt, types, entries)?;
     let mut providers: Vec<Box<dyn Provider + Sync>> = Vec::new(alloc);
+    providers.push(Box::new(alloc, remote)?)?;
     providers.push(Box::new(alloc, sim)?)?;
     providers.push(Box::new(alloc, files)?)?;
     Ok(finish_recovery(rt, place, file, given, past, providers.as_slice(), out, err))
+}
+
+/// The providers of a recovery: each answers from its own entries of the log.
+struct ReplayedProviders {
+    remote: Replayed<RemoteTypes>,
+    sim: Replayed<Sim>,
+    files: Replayed<LocalFile<HostRuntime>>,
+}
+
+/// Returns the providers of a recovery.
+fn replayed_providers(
+    rt: &HostRuntime,
+    types: &RemoteTypes,
+    entries: Vec<LogEntry>,
+) -> Result<ReplayedProviders, AllocError>
+    ensures { IfOk result (λ by. ⟦<Replayed<RemoteTypes> as Provider>⟧.meaning by.remote ∷ ⟦<Replayed<Sim> as Provider>⟧.meaning by.sim ∷ ⟦<Replayed<LocalFile<HostRuntime>> as Provider>⟧.meaning by.files ∷ []
+        ≡ outside_replayed (⟦<RemoteTypes as Provider>⟧.meaning types.now) (map log_entry_of entries.items)) }
+{
+    let alloc = rt.alloc();
+    let OwnEntries { remote, sim, files } = entries_by_provider(rt, types, entries)?;
+    let remote = Replayed::new(alloc, remote, types.share()?);
+    let sim = Replayed::new(alloc, sim, Sim::new(alloc)?);
+    let files = Replayed::new(alloc, files, LocalFile::new(alloc, *rt)?);
+    Ok(ReplayedProviders { remote, sim, files })
 }

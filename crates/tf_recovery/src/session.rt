@@ -6,12 +6,13 @@ ghost use Rattle.tf_recovery.specs.Begun.{has_begun};
 
 use crate::pipes::{Loss, Pipe};
 use std::alloc::{AllocError, Global};
-use std::fs;
 use std::fs::File;
-use std::io::Write;
+use std::io::{Stdout, Write};
+use std::{fs, mem};
+use tf_cli_events::CallEvents;
 use tf_cli_files::{LogSink, ProgramInput};
 use tf_provider::{Provider, Reply, Request, first_provider};
-use tf_provider_log::{LogEntry, OpenLog, is_begun};
+use tf_provider_log::{Announced, LogEntry, OpenLog, is_begun};
 use tf_provider_remote::{Flight, Flights, RemoteTypes, Response, Unsent, request_line};
 
 /// The log of an apply.
@@ -24,6 +25,8 @@ pub(crate) struct Session {
     pub(crate) types: RemoteTypes,
     /// The calls that ended, with their replies.
     pub(crate) entries: Vec<LogEntry>,
+    /// What is sent together, after the next sync of the log. The log doesn't have it yet.
+    waiting: Flights,
     /// What was sent and has no reply yet.
     pub(crate) flights: Flights,
     /// The pipes of each provider.
@@ -36,6 +39,8 @@ pub(crate) struct Session {
     pub(crate) next_id: u64,
     /// How many requests may be in flight.
     pub(crate) most: usize,
+    /// Where the calls are reported.
+    events: CallEvents<Stdout, HostRuntime>,
 }
 
 impl Session {
@@ -45,6 +50,7 @@ impl Session {
         types: RemoteTypes,
         pipes: Vec<Pipe>,
         most: usize,
+        events: CallEvents<Stdout, HostRuntime>,
     ) -> Result<Session, AllocError> {
         let mut lost = Vec::new(alloc);
         for _ in 0..pipes.len() {
@@ -53,12 +59,14 @@ impl Session {
         Ok(Session {
             types,
             entries: Vec::new(alloc),
+            waiting: Flights::new(alloc),
             flights: Flights::new(alloc),
             pipes,
             lost,
             is_closed: false,
             next_id: 1,
             most,
+            events,
         })
     }
 
@@ -78,11 +86,11 @@ impl Session {
         false
     }
 
-    /// Returns whether a request is in flight or has ended.
+    /// Returns whether a request waits, is in flight or has ended.
     fn has_begun(&self, request: &Request) -> bool
         ensures { result ≡ has_begun (asked request.now) self.now }
     {
-        self.flights.has(request) || is_begun(&self.entries, request)
+        self.waiting.has(request) || self.flights.has(request) || is_begun(&self.entries, request)
     }
 
     /// Makes the calls that aren't begun, and takes replies.
@@ -105,9 +113,13 @@ impl Session {
             }
             match self.types.provider_of(request.type_name.as_str()) {
                 Some(provider) => self.send(rt, log, folders, provider, request, err)?,
-                None => self.call(log, providers, request)?,
+                None => {
+                    self.flush(rt.alloc(), log, folders, err)?;
+                    self.call(log, providers, request)?;
+                }
             }
         }
+        self.flush(rt.alloc(), log, folders, err)?;
         let enough = 1 + self.entries.len() / 200;
         for _ in 0..enough {
             self.receive(rt, log, folders, err)?;
@@ -125,10 +137,12 @@ impl Session {
         if self.has_begun(&request) {
             return Ok(());
         }
+        self.events.begin(&request);
         let reply = match first_provider(providers, request.type_name.as_str()) {
             Some(provider) => provider.apply(&request),
             None => Reply::NoMemory,
         };
+        self.events.end(&request, &reply, None);
         if log.is_lost() {
             self.is_closed = true;
         }
@@ -136,7 +150,8 @@ impl Session {
         Ok(())
     }
 
-    /// Sends a request to its provider, once few enough requests are in flight. Doesn't send it if it is begun already.
+    /// Has a request wait until it is sent to its provider, once few enough requests are in flight or wait. Does nothing if it is
+    /// begun already.
     fn send<E: Write>(
         &mut self,
         rt: &HostRuntime,
@@ -153,9 +168,10 @@ impl Session {
             Err(Unsent::Unfit) => return self.pass_over(request),
         };
         for _ in 0..u64::MAX {
-            if self.is_closed || self.flights.has_room(self.most, line.len()) {
+            if self.is_closed || self.flights.has_room(&self.waiting, self.most, line.len()) {
                 break;
             }
+            self.flush(alloc, log, folders, err)?;
             self.receive(rt, log, folders, err)?;
         }
         if self.is_closed {
@@ -164,7 +180,7 @@ impl Session {
         if self.has_begun(&request) {
             return Ok(());
         }
-        self.begin(alloc, log, folders, provider, request, line, err)
+        self.wait(provider, request, line)
     }
 
     /// Notes a request that can't be sent, so that it isn't tried again.
@@ -174,39 +190,67 @@ impl Session {
         Ok(())
     }
 
-    /// Writes that a request is begun, and then its line. It is neither in flight nor ended, so it wasn't sent before.
-    fn begin<E: Write>(
+    /// Has a request wait for the next sync of the log. It is neither in flight nor ended, and doesn't wait yet, so it wasn't sent
+    /// before.
+    fn wait(&mut self, provider: usize, request: Request, line: String) -> Result<(), AllocError>
+        requires { has_begun (asked request) self.old ≡ false }
+    {
+        let id = self.next_id;
+        self.next_id = id.saturating_add(1);
+        self.waiting.add(Flight {
+            id,
+            provider,
+            line,
+            request,
+        })
+    }
+
+    /// Writes that the waiting requests are begun, syncs the log once, and sends their lines. If the log can't say that one is begun,
+    /// neither this one nor a later one is sent, and nothing more is begun.
+    fn flush<E: Write>(
         &mut self,
         alloc: Global,
         log: &ApplyLog,
         folders: &[String],
-        provider: usize,
-        request: Request,
-        line: String,
         err: &mut E,
-    ) -> Result<(), AllocError>
-        requires { has_begun (asked request) self.old ≡ false }
-    {
-        let Ok(announced) = log.announce(alloc, &request) else {
-            self.is_closed = true;
+    ) -> Result<(), AllocError> {
+        let waiting = mem::replace(&mut self.waiting, Flights::new(alloc)).into_list();
+        if waiting.is_empty() || self.is_closed {
             return Ok(());
-        };
-        let sent = match self.pipes.get_mut(provider) {
-            Some(pipe) => pipe.send(announced, line.as_str()),
-            None => Err(Loss::Unwritten),
-        };
-        let id = self.next_id;
-        self.next_id = id.saturating_add(1);
-        self.flights.add(Flight {
-            id,
-            provider,
-            size: line.len(),
-            request,
-        })?;
-        if let Err(loss) = sent {
-            self.lose(folders, provider, loss, err);
+        }
+        let announced = announced(alloc, log, waiting.as_slice());
+        let count = announced.len();
+        for (announced, flight) in announced.into_iter().zip(waiting.as_slice()) {
+            self.write(folders, announced, flight, err);
+        }
+        if count < waiting.len() {
+            self.is_closed = true;
+        }
+        for flight in waiting.into_iter().take(count) {
+            self.flights.add(flight)?;
         }
         Ok(())
+    }
+
+    /// Writes the line of a request to the pipe of its provider, unless that is lost.
+    fn write<E: Write>(
+        &mut self,
+        folders: &[String],
+        announced: Announced<'_>,
+        flight: &Flight,
+        err: &mut E,
+    ) {
+        if self.lost.get(flight.provider) == Some(&true) {
+            return;
+        }
+        self.events.begin(&flight.request);
+        let sent = match self.pipes.get_mut(flight.provider) {
+            Some(pipe) => pipe.send(announced, flight.line.as_str()),
+            None => Err(Loss::Unwritten),
+        };
+        if let Err(loss) = sent {
+            self.lose(folders, flight.provider, loss, err);
+        }
     }
 
     /// Waits for replies of the provider of the first request in flight, if there is one.
@@ -263,6 +307,7 @@ impl Session {
             }
             self.is_closed = true;
         }
+        self.events.end(&flight.request, &reply, None);
         self.entries
             .push(LogEntry::Answered(flight.request, reply))?;
         Ok(())
@@ -280,6 +325,24 @@ impl Session {
         if let Some(folder) = folders.get(provider) {
             let _ = writeln!(err, "error: provider {folder}: {}", loss.text());
         }
+    }
+}
+
+/// Writes that requests are begun, and syncs the log once. Returns the evidence for the first of them, up to one that the log can't
+/// say is begun.
+fn announced<'a>(alloc: Global, log: &ApplyLog, waiting: &'a [Flight]) -> Vec<Announced<'a>> {
+    let mut written = Vec::new(alloc);
+    for flight in waiting {
+        let Ok(line) = log.write_begun(alloc, &flight.request) else {
+            break;
+        };
+        if written.push(line).is_err() {
+            break;
+        }
+    }
+    match log.announce(alloc, written) {
+        Ok(announced) => announced,
+        Err(_) => Vec::new(alloc),
     }
 }
 

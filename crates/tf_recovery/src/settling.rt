@@ -1,5 +1,6 @@
 //! The results of calls that were in flight when an apply ended.
 
+use crate::repeating::without_idempotent;
 use std::alloc::{AllocError, Global};
 use std::fs::File;
 use std::io::{ErrorKind, Write};
@@ -22,10 +23,10 @@ use tf_provider_sim::Sim;
 /// that and returns the program's status, 1; the log then stays as it is.
 pub(crate) fn settle<E: Write>(
     rt: &HostRuntime,
+    types: &RemoteTypes,
     place: &Place,
     file: &File,
     given: &ProgramInput,
-    types: Option<&RemoteTypes>,
     past: Option<(Past, Vec<LogEntry>)>,
     err: &mut E,
 ) -> Result<Option<(Past, Vec<LogEntry>)>, ExitCode> {
@@ -35,8 +36,14 @@ pub(crate) fn settle<E: Write>(
                 return Err(tell_other_state(name.as_str(), place, err));
             }
             let in_flight = found.in_flight.as_slice();
-            add_results(rt, place, file, name.as_str(), in_flight, types, err)?;
-            see_past(rt, place, err)
+            add_results(rt, types, place, file, name.as_str(), in_flight, err)?;
+            match see_past(rt, place, err) {
+                Ok(past) => match without_idempotent(rt.alloc(), types, past) {
+                    Ok(past) => Ok(past),
+                    Err(AllocError) => Err(tell_no_memory(err)),
+                },
+                Err(status) => Err(status),
+            }
         }
         _ => Ok(past),
     }
@@ -56,17 +63,17 @@ fn tell_other_state<E: Write>(name: &str, place: &Place, err: &mut E) -> ExitCod
 /// Adds the results in a file to the log, and syncs it. If the file isn't of exactly the calls in flight, prints that.
 fn add_results<E: Write>(
     rt: &HostRuntime,
+    types: &RemoteTypes,
     place: &Place,
     file: &File,
     name: &str,
     in_flight: &[Request],
-    types: Option<&RemoteTypes>,
     err: &mut E,
 ) -> Result<(), ExitCode> {
     let Ok(text) = fs::read(rt, name) else {
         return Err(tell_unread(name, err));
     };
-    let lines = match answers_by(rt, name, text.as_slice(), in_flight, types, err) {
+    let lines = match answers_by(rt, types, name, text.as_slice(), in_flight, err) {
         Ok(Ok(lines)) => lines,
         Ok(Err(status)) => return Err(status),
         Err(AllocError) => return Err(tell_no_memory(err)),
@@ -77,21 +84,19 @@ fn add_results<E: Write>(
     }
 }
 
-/// Returns the log's lines of the results in a text. The providers are those of these types, if there are any, and the programs' own.
+/// Returns the log's lines of the results in a text. The providers are those of these types, and the programs' own.
 /// If the text isn't of exactly the calls in flight, prints that.
 fn answers_by<E: Write>(
     rt: &HostRuntime,
+    types: &RemoteTypes,
     name: &str,
     text: &[u8],
     in_flight: &[Request],
-    types: Option<&RemoteTypes>,
     err: &mut E,
 ) -> Result<Result<String, ExitCode>, AllocError> {
     let alloc = rt.alloc();
     let mut providers: Vec<Box<dyn Provider + Sync>> = Vec::new(alloc);
-    if let Some(types) = types {
-        providers.push(Box::new(alloc, types.share()?)?)?;
-    }
+    providers.push(Box::new(alloc, types.share()?)?)?;
     providers.push(Box::new(alloc, Sim::new(alloc)?)?)?;
     providers.push(Box::new(alloc, LocalFile::new(alloc, *rt)?)?)?;
     match answers(alloc, text, in_flight, &providers) {

@@ -9,7 +9,7 @@ ghost use Rattle.tf_walk_action.specs.Words.{plan_of};
 use crate::notes::{Noted, Notes};
 use crate::own::{OwnEntries, entries_by_provider};
 use std::alloc::{AllocError, Global};
-use tf_cli::{Applied, Refused, Stop, apply_one, carry_out_one, state_to_write, text_of};
+use tf_cli::{Applied, Refused, Report, Stop, Walked, apply_one, state_to_write};
 use tf_cli_files::ProgramInput;
 use tf_plan_data::Planned;
 use tf_provider::Provider;
@@ -18,6 +18,7 @@ use tf_provider_log::{LogEntry, copy_entries};
 use tf_provider_protocol::Request;
 use tf_provider_remote::RemoteTypes;
 use tf_provider_sim::Sim;
+use tf_walk::run_one;
 
 /// The answer of an apply, and what it asked for that its log doesn't answer.
 pub(crate) struct Walk {
@@ -61,8 +62,8 @@ pub(crate) fn apply_over_log(
     }
 }
 
-/// Carries out a plan with providers that answer from their own entries of the log, and returns the requests that these don't
-/// answer. Calls no other provider.
+/// Walks through a plan with providers that answer from their own entries of the log, and returns the requests that these don't
+/// answer. Calls no other provider, and makes no text of the plan or of a state.
 pub(crate) fn requests_over_log(
     rt: &HostRuntime,
     planned: &Planned,
@@ -78,17 +79,25 @@ pub(crate) fn requests_over_log(
     providers.push(Box::new(alloc, remote)?)?;
     providers.push(Box::new(alloc, sim)?)?;
     providers.push(Box::new(alloc, files)?)?;
-    let Ok(text) = text_of(alloc, planned) else {
-        return Err(AllocError);
-    };
-    let answer = carry_out_one(alloc, planned, text, providers.as_slice(), &Stop::new());
-    let is_carried_out = answer.is_ok();
-    drop(state_to_write(answer));
-    if is_carried_out {
-        notes.requests(alloc)
-    } else {
-        Err(AllocError)
+    match run_one(alloc, planned, providers.as_slice(), &Stop::new()) {
+        Ok(walked) => {
+            drop_report(walked);
+            notes.requests(alloc)
+        }
+        Err(_) => Err(AllocError),
     }
+}
+
+/// Drops what a walk reports.
+fn drop_report(walked: Walked) {
+    let Report {
+        state: _,
+        outcomes: _,
+        diagnostics: _,
+        journal: _,
+        excused: _,
+        good: _,
+    } = walked.into_report();
 }
 
 /// The providers of an apply over a log: each answers from its own entries, and notes the requests that these don't answer.
