@@ -9,6 +9,7 @@ mod screen;
 mod shared;
 mod status;
 
+pub use lines::{begun_line, ended_line, ended_well};
 pub use progress::Progress;
 pub use screen::Screen;
 pub use shared::progress_is_shared;

@@ -15,7 +15,7 @@ const LONGEST: usize = 80;
 
 /// Returns the line of a call that begins: `sim_net.a: Creating...`. If there is a prior object, the line has its id,
 /// as in `sim_net.a: Destroying... [id=net-x]`.
-pub(crate) fn begun_line(alloc: Global, request: &Request) -> Result<String, AllocError>
+pub fn begun_line(alloc: Global, request: &Request) -> Result<String, AllocError>
     ensures { IfOk result (λ line. string_bytes line ≡ begun_line (asked request.now)) }
 {
     let mut line = String::new(alloc);
@@ -29,7 +29,7 @@ pub(crate) fn begun_line(alloc: Global, request: &Request) -> Result<String, All
 /// Returns the line of a call that ended: `sim_net.a: Creation complete after 0s [id=net-x]`, with the id of the
 /// object in the reply, and with the seconds if the clock could be read. If the reply isn't what was asked for, the
 /// line is `sim_net.a: Creation errored after 0s`.
-pub(crate) fn ended_line(
+pub fn ended_line(
     alloc: Global,
     request: &Request,
     reply: &Reply,
@@ -111,7 +111,7 @@ fn still_word(op: Op) -> &'static str
 }
 
 /// Returns whether a reply is what was asked for: an object for a create or an update, and no object for a destroy.
-pub(crate) fn ended_well(op: Op, reply: &Reply) -> bool
+pub fn ended_well(op: Op, reply: &Reply) -> bool
     ensures { result ≡ ended_well op (answered reply.now) }
 {
     match (reply, op) {
