@@ -8,7 +8,7 @@ use Rattle.tf_config_data.specs.Names.{meant_at}
 use Rattle.tf_plan_decision.specs.Steps.{current_steps, decided_steps, deposed_step, destroy_if_deposed}
 use Rattle.tf_plan_decision.specs.Decision as decision
 use Rattle.tf_plan_decision.specs.Decision.{DecisionView, DecisionFaultView, change, current, decided, unless_prevented, unless_unfit}
-use Rattle.tf_plan_decision.specs.Ignored.{heeding, ignored_fault}
+use Rattle.tf_plan_decision.specs.Ignored.{with_ignored_changes, ignored_fault}
 use Rattle.tf_plan_object.specs.Kept.{kept_object}
 use Rattle.tf_plan_decision.specs.Laws.{CreatesAreFirst, ReplacesHaveACause, UpdatesDiffer}
 use Rattle.tf_plan_decision.specs.Prior.{PriorFaultView, first_unfit}
@@ -39,7 +39,7 @@ pub changed : (schema : SchemaView) (lifecycle : LifecycleView) (prior : Option 
 changed schema lifecycle prior (Ok t) d e = (t, refl, not_prevented lifecycle.prevent_destroy (change schema lifecycle.ignore_changes prior t) d e)
 changed schema lifecycle prior (Err why) d e = absurd (cc)
 
-pub heeded : (o : Option (List ℕ)) (p : Result Tree InstanceFaultView) (t : Tree) → heeding o p ≡ Ok t → p ≡ Ok t
+pub heeded : (o : Option (List ℕ)) (p : Result Tree InstanceFaultView) (t : Tree) → with_ignored_changes o p ≡ Ok t → p ≡ Ok t
 heeded None p t e = e
 heeded (Some name) (Ok u) t e = absurd (cc)
 heeded (Some name) (Err (for_each_fault why)) t e = absurd (cc)
@@ -49,7 +49,7 @@ heeded (Some name) (Err (argument_fault found)) t e = absurd (cc)
 pub decision_is : (schema : SchemaView) (lifecycle : LifecycleView) (records : List RecordView) (p : Result Tree InstanceFaultView) (d : DecisionView) → decision.decision schema lifecycle records p ≡ Ok d
     → (t : Tree) × (p ≡ Ok t) × (change schema lifecycle.ignore_changes (current records) t ≡ d)
 decision_is schema lifecycle records p d e =
-    let q = heeding (ignored_fault schema lifecycle.ignore_changes) p in
+    let q = with_ignored_changes (ignored_fault schema lifecycle.ignore_changes) p in
     let fit = fit_decided (first_unfit schema records) (decided schema lifecycle (current records) q) d e in
     let found = changed schema lifecycle (current records) q d fit in
     (found.0, heeded (ignored_fault schema lifecycle.ignore_changes) p found.0 found.1, found.2)

@@ -15,7 +15,7 @@ use Rattle.tf_plan_decision.specs.Steps.{decided_steps}
 use Rattle.tf_plan_decision.specs.Whole.{block_instances, instances, instances_at, name_instances}
 use Rattle.tf_plan_decision.specs.Decision as decision
 use Rattle.tf_plan_decision.specs.Decision.{DecisionView, DecisionFaultView, change, current, decided, no_provider, unless_prevented, unless_unfit}
-use Rattle.tf_plan_decision.specs.Ignored.{heeding, ignored_fault}
+use Rattle.tf_plan_decision.specs.Ignored.{with_ignored_changes, ignored_fault}
 use Rattle.tf_plan_decision.specs.Prior.{PriorFaultView, first_unfit}
 use Rattle.tf_expand_keys.specs.InstanceKeys.{InstanceKeysView}
 use Rattle.tf_expand_keys.specs.Resolved.{ResolvedView, all_stand, environment}
@@ -47,7 +47,7 @@ changed : (schema : SchemaView) (lifecycle : LifecycleView) (prior : Option Reco
 changed schema lifecycle prior (Ok t) d e = (t, refl, not_prevented lifecycle.prevent_destroy (change schema lifecycle.ignore_changes prior t) d e)
 changed schema lifecycle prior (Err why) d e = absurd (cc)
 
-heeded : (o : Option (List ℕ)) (p : Result Tree InstanceFaultView) (t : Tree) → heeding o p ≡ Ok t → (o ≡ None) × (p ≡ Ok t)
+heeded : (o : Option (List ℕ)) (p : Result Tree InstanceFaultView) (t : Tree) → with_ignored_changes o p ≡ Ok t → (o ≡ None) × (p ≡ Ok t)
 heeded None p t e = (refl, e)
 heeded (Some name) (Ok u) t e = absurd (cc)
 heeded (Some name) (Err (for_each_fault why)) t e = absurd (cc)
@@ -64,7 +64,7 @@ pub record IsDecided (schema : SchemaView) (lifecycle : LifecycleView) (records 
 pub decision_is : (schema : SchemaView) (lifecycle : LifecycleView) (records : List RecordView) (p : Result Tree InstanceFaultView) (d : DecisionView) → decision.decision schema lifecycle records p ≡ Ok d
     → IsDecided schema lifecycle records p d
 decision_is schema lifecycle records p d e =
-    let q = heeding (ignored_fault schema lifecycle.ignore_changes) p in
+    let q = with_ignored_changes (ignored_fault schema lifecycle.ignore_changes) p in
     let fit = fit_decided (first_unfit schema records) (decided schema lifecycle (current records) q) d e in
     let found = changed schema lifecycle (current records) q d fit.1 in
     let own = heeded (ignored_fault schema lifecycle.ignore_changes) p found.0 found.1 in

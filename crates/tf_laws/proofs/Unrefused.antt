@@ -15,7 +15,7 @@ use Rattle.tf_plan_decision.specs.Steps.{decided_steps}
 use Rattle.tf_plan_decision.specs.Whole.{block_instances, instances, instances_at, name_instances}
 use Rattle.tf_plan_decision.specs.Decision as decision
 use Rattle.tf_plan_decision.specs.Decision.{change, current, unless_prevented, unless_unfit}
-use Rattle.tf_plan_decision.specs.Ignored.{heeding, ignored_fault}
+use Rattle.tf_plan_decision.specs.Ignored.{with_ignored_changes, ignored_fault}
 use Rattle.tf_plan_decision.specs.Prior.{PriorFaultView, first_unfit}
 use Rattle.tf_expand_keys.proofs.Places.{all_places}
 use Rattle.tf_expand_keys.proofs.Seen.{agree_on}
@@ -62,8 +62,8 @@ decides_nothing : (schema : SchemaView) (lifecycle : LifecycleView) (records : L
     → ignored_fault schema lifecycle.ignore_changes ≡ None → p ≡ Ok made → current records ≡ Some r → change schema lifecycle.ignore_changes (Some r) made ≡ decision.nothing
     → decision.decision schema lifecycle records p ≡ Ok decision.nothing
 decides_nothing schema lifecycle records p r made fits heeded makes found none =
-    ap (λ (o : Option PriorFaultView). unless_unfit o (decision.decided schema lifecycle (current records) (heeding (ignored_fault schema lifecycle.ignore_changes) p))) fits
-    ∙ ap (λ (o : Option (List ℕ)). decision.decided schema lifecycle (current records) (heeding o p)) heeded
+    ap (λ (o : Option PriorFaultView). unless_unfit o (decision.decided schema lifecycle (current records) (with_ignored_changes (ignored_fault schema lifecycle.ignore_changes) p))) fits
+    ∙ ap (λ (o : Option (List ℕ)). decision.decided schema lifecycle (current records) (with_ignored_changes o p)) heeded
     ∙ ap (λ (q : Result Tree InstanceFaultView). decision.decided schema lifecycle (current records) q) makes
     ∙ ap (λ (o : Option RecordView). unless_prevented lifecycle.prevent_destroy (change schema lifecycle.ignore_changes o made)) found
     ∙ ap (unless_prevented lifecycle.prevent_destroy) none ∙ nothing_prevented lifecycle.prevent_destroy
