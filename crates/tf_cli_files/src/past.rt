@@ -20,7 +20,7 @@ use tf_provider_protocol::Request;
 pub struct Past {
     /// The input of the apply.
     pub header: Header,
-    /// How many results its log has.
+    /// The number of results in its log.
     pub answers: usize,
     /// The calls without a recorded result.
     pub in_flight: Vec<Request>,

@@ -15,7 +15,7 @@ pub enum Element {
     Bool,
 }
 
-/// The type of a variable: one of the four, or a list or a map of it. `null` fits every type.
+/// The type of a variable: `any`, `string`, `number` or `bool`, or a list or map of one of these. `null` fits every type.
 #[derive(Clone, Copy, Debug, PartialEq, Eq)]
 pub enum VariableType {
     /// One of the four, as in `string`.

@@ -1,6 +1,6 @@
 ghost use Rattle.tf_config_json.specs.Laws.{StandingIsFaultless, FaultlessStands, StandsForOne, BlocksAreInOrder, BlocksHaveNames, NamesAreFew, RefusedOnce, RefusedIsNotRead};
 
-/// A JSON tree reads as a configuration exactly if all checks of it are met, and it reads as at most one.
+/// A JSON tree is a configuration exactly if it meets every check, and then only one.
 pub fn faultless_trees_stand()
     ensures faultless { StandingIsFaultless }
     ensures stands { FaultlessStands }

@@ -101,7 +101,7 @@ fn keys(alloc: Global, entries: &BTreeMap<String, Value>) -> Result<Vec<String>,
     Ok(names)
 }
 
-/// Returns the texts of a set.
+/// Copies the texts of a set into a list, in byte order.
 fn texts(alloc: Global, set: &BTreeSet<String>) -> Result<Vec<String>, AllocError>
     ensures { IfOk result (λ names. each string_bytes names.items ≡ texts_view set.now.keys) }
 {

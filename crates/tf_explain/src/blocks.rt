@@ -8,7 +8,7 @@ use std::alloc::{AllocError, Global};
 /// An address of a resource or of one of its instances, and what follows it.
 #[derive(Clone, Copy)]
 pub(crate) struct Address<'a> {
-    /// The type.
+    /// The resource type, such as `sim_net`.
     pub(crate) type_name: &'a str,
     /// The name.
     pub(crate) name: &'a str,

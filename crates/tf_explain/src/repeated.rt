@@ -31,7 +31,7 @@ pub enum ObjectKind {
 pub struct Repeated {
     /// What its object has.
     pub kind: ObjectKind,
-    /// The name of the last one, which counts, with its quotes.
+    /// Where the last property's name is, with its quotes. That property counts.
     pub last: Span,
     /// The names of the others, in their order.
     pub others: Vec<Span>,

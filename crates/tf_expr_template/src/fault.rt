@@ -13,8 +13,7 @@ use std::alloc::AllocError;
 /// Why a text isn't read.
 #[derive(Clone, Copy, Debug, PartialEq, Eq)]
 pub(crate) enum TemplateFault {
-    /// No template begins with the text up to and with a token. The number is how many bytes are left from that token
-    /// on.
+    /// A token can't follow the text before it in any template. Holds the number of bytes from that token to the end.
     At(usize),
     /// It is deeper than allowed.
     TooDeep,

@@ -25,7 +25,7 @@ pub(crate) enum Decision {
     Nothing,
     /// There is no object, and this one is created.
     Create(Value),
-    /// The object is updated to this one, in the attributes of these names, in byte order.
+    /// An update to this object. The names are those of the attributes that change, in byte order.
     Update(Value, Vec<String>),
     /// The object is replaced by this one. The names, in byte order, are those of the attributes that differ and whose
     /// changes replace an object. The list is empty if the prior object is tainted.

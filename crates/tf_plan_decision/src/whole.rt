@@ -237,7 +237,7 @@ fn add_place(
     }
 }
 
-/// Takes out the decisions at a place.
+/// Returns the decisions at an index, and leaves none there.
 fn take_row(alloc: Global, rows: &mut Vec<Decided>, place: usize) -> Decided
     ensures taken { decided_of result ≡ rows_of rows.old.items place }
     ensures others { (n : ℕ) → n ≢ place → rows_of rows.new.items n ≡ rows_of rows.old.items n }

@@ -28,7 +28,7 @@ pub fn pairs_are_those()
     ensures { PairsAreThose }
 {}
 
-/// If nothing needs itself by the configuration, its table is a strict order.
+/// If no resource needs itself by the configuration, the table of needs is a strict order.
 pub fn acyclic_is_strict()
     ensures { AcyclicIsStrict }
 {}

@@ -128,7 +128,7 @@ fn add_orphans<'a>(
     Ok(())
 }
 
-/// Adds a resource if it has no block.
+/// Adds a resource of the state if the configuration has no block for it.
 fn add_orphan<'a>(
     numbered: &mut Vec<ResourceRef<'a>>,
     block: Option<usize>,

@@ -12,7 +12,7 @@ use tf_value_data::Value;
 /// The default permissions: everyone may do everything, less what the process takes away (umask).
 const ALL: u32 = 0o777;
 
-/// What a request wants at a name.
+/// Whether a request wants a file of this name, and which.
 #[derive(Drop)]
 pub enum Wanted<'a> {
     /// A file.

@@ -7,7 +7,7 @@ use std::fmt;
 /// Why an entry isn't written.
 #[derive(Clone, Copy, Debug, PartialEq, Eq)]
 pub enum Unwritten {
-    /// A value of it doesn't fit a line: it holds a set, or is more than 100 deep.
+    /// A value of the entry can't be written: it holds a set, or is nested more than 100 deep.
     Unfit,
     /// Memory ran out.
     OutOfMemory,

@@ -282,7 +282,7 @@ fn place(attributes: &mut Vec<Attribute>, attribute: Attribute) -> Result<(), Sc
     Ok(())
 }
 
-/// Returns the number of attributes before a name.
+/// Returns the index of the first attribute whose name isn't before this one, or the length.
 fn place_of(attributes: &[Attribute], name: &str) -> usize
     ensures { result ≡ place_in (map attribute_of attributes.now) name.now }
 {

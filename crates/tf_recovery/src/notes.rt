@@ -36,7 +36,7 @@ impl Notes {
         }
     }
 
-    /// Returns notes that share these lines.
+    /// Returns another handle on the same lines, without copying them.
     pub(crate) fn share(&self) -> Result<Notes, AllocError> {
         Ok(Notes {
             lines: Arc::try_clone(&self.lines)?,

@@ -89,7 +89,7 @@ impl State {
         self.serial = serial;
     }
 
-    /// Returns the text that the states of one history share.
+    /// Returns the lineage: the text that all states of one history share.
     pub fn lineage(&self) -> &str
         ensures { result.now ≡ (state_of self.now).lineage }
     {

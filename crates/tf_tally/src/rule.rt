@@ -15,7 +15,7 @@ impl<E> TableRule<E, Holding<E>, u64> for Law {
     ghost first = { first_holding };
 }
 
-/// An exchange that adds the entry that it says.
+/// The exchange that adds its step's entry to the holding.
 pub(crate) struct Add;
 
 impl<E> Play<E, Holding<E>> for Add {

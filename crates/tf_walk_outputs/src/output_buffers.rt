@@ -43,7 +43,7 @@ pub fn reserve_outputs<'a>(
     Ok(rooms)
 }
 
-/// Returns the buffers for an output.
+/// Returns an output's name, its expression and the indices of the names in it.
 fn reserve_output<'a>(
     alloc: Global,
     names: &Declarations<'_>,

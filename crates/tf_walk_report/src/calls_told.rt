@@ -32,7 +32,7 @@ fn is_told(entry: &Entry, outcomes: &[Outcome], excused: &[Excuse]) -> bool
     verdict_told(outcomes, excused, entry.action) == Some(entry.verdict)
 }
 
-/// Counts the calls that are reported.
+/// Returns the number of actions that are reported as called.
 pub fn count_told(outcomes: &[Outcome], excused: &[Excuse]) -> usize
     ensures { result
         ≡ how_many (λ n. is_some (verdict_told outcomes.now excused.now n)) (length outcomes.now) }

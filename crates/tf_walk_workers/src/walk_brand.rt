@@ -9,8 +9,8 @@ ghost use Rattle.tf_walk_workers.specs.NoPlan.{no_plan, no_table};
 use std::marker::Brand;
 
 /// The walk that cells belong to, as plain data: the providers' meanings, the plan, the tally of
-/// its calls, and the mark of the flag that stops it. It is for contracts alone:
-/// each call that starts a walk chooses it.
+/// its calls, and the mark of the flag that stops it. Only contracts use it. The call
+/// that starts a walk chooses it.
 pub trait WalkBrand {
     ghost meanings: { List Meaning };
 
