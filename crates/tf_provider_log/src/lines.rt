@@ -33,6 +33,12 @@ pub(crate) struct Synced<'a> {
     text: &'a str,
 }
 
+/// The evidence that all texts of a log were on the disk at some moment. Only a sync creates one.
+#[derive(Drop)]
+pub(crate) struct OnDisk {
+    seen: (),
+}
+
 /// The evidence that the log is lost. It is created if the log is seen or marked as lost.
 #[derive(Debug, Drop)]
 pub(crate) struct Lost {
@@ -72,8 +78,9 @@ impl<S: Sink> Lines<S> {
     }
 
     /// Syncs all texts so far, unless the log is lost. If that fails, the log is lost.
-    pub(crate) fn sync(&self) -> Result<(), Lost> {
-        self.store("", Durability::OnDisk)
+    pub(crate) fn sync(&self) -> Result<OnDisk, Lost> {
+        self.store("", Durability::OnDisk)?;
+        Ok(OnDisk { seen: () })
     }
 
     /// Stores a text, unless the log is lost. If that fails, the log is lost.

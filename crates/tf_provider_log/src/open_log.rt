@@ -101,7 +101,7 @@ impl<S: Sink> OpenLog<S> {
     /// Fails if the log is lost, which it is if the sync fails.
     pub fn sync(&self) -> Result<(), NotAdded> {
         match self.lines.sync() {
-            Ok(()) => Ok(()),
+            Ok(_) => Ok(()),
             Err(_) => Err(NotAdded),
         }
     }

@@ -6,7 +6,7 @@ ghost use Rattle.tf_provider_log.specs.LogEntry.{begun};
 ghost use Rattle.tf_provider_protocol.specs.Meaning.{asked};
 
 use crate::fault::Unwritten;
-use crate::lines::{Added, Telling};
+use crate::lines::{Added, OnDisk, Telling};
 use crate::open_log::OpenLog;
 use crate::sink::{NotAdded, Sink};
 use crate::writing::{answered_line, begun_line};
@@ -37,6 +37,14 @@ impl<'a> BegunLine<'a> {
 }
 
 impl<'a> Announced<'a> {
+    /// Returns the evidence that a request's line is on the disk, given a sync after the line.
+    fn by(line: BegunLine<'a>, _on_disk: &OnDisk) -> Announced<'a>
+        ensures { result.request.now ≡ line.entry.request.now }
+    {
+        let BegunLine { request } = line;
+        Announced { request }
+    }
+
     /// Returns the request.
     pub fn request(&self) -> &'a Request
         ensures { result.now ≡ self.now.request.now }
@@ -99,11 +107,12 @@ impl<S: Sink> OpenLog<S> {
     ) -> Result<Vec<Announced<'a>>, NotAdded>
         ensures { IfOk result (λ announced. map (λ a. a.request.now) announced.items ≡ map (λ w. w.request.now) written.entry.items) }
     {
-        self.sync()?;
+        let Ok(on_disk) = self.lines.sync() else {
+            return Err(NotAdded);
+        };
         let mut announced = Vec::new(alloc);
         for line in written {
-            let BegunLine { request } = line;
-            if announced.push(Announced { request }).is_err() {
+            if announced.push(Announced::by(line, &on_disk)).is_err() {
                 return Err(NotAdded);
             }
         }

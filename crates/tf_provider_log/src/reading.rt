@@ -1,6 +1,6 @@
 //! Reading a log.
 
-ghost use Rattle.std.specs.Prelude.{◌≡◌, ◌<◌, ◌∷◌, [], Some, Ok, ◌++◌, IfOk, IfErr, OnOk, MatchOption, option_map, map, length};
+ghost use Rattle.std.specs.Prelude.{◌≡◌, ◌<◌, ◌∷◌, [], Some, Ok, ◌++◌, IfOk, IfErr, IfSome, OnOk, MatchOption, option_map, map, length};
 ghost use Rattle.serde_json.specs.View.{view};
 ghost use Rattle.tf_provider_log.specs.LogEntry.{log_entry_of, log_of};
 ghost use Rattle.tf_provider_log.specs.From.{entry_from, header_from, version_of, version_from, is_known};
@@ -34,8 +34,9 @@ pub fn read_log(alloc: Global, bytes: &[u8]) -> Result<Option<Log>, LogFault>
 
 /// Returns the first whole line of a text, without its newline, and what follows it. Returns `None` if there is no newline.
 pub fn next_line(bytes: &[u8]) -> Option<(&[u8], &[u8])>
-    ensures { MatchOption result (lines_of bytes.now ≡ [])
+    ensures lines { MatchOption result (lines_of bytes.now ≡ [])
         (λ p. (lines_of bytes.now ≡ p.0.now ∷ lines_of p.1.now) × (length p.1.now < length bytes.now)) }
+    ensures parts { IfSome result (λ p. bytes.now ≡ p.0.now ++ 10 ∷ p.1.now) }
 {
     for (index, byte) in bytes.iter().enumerate() {
         if *byte == 10 {

@@ -9,6 +9,7 @@ mod screen;
 mod shared;
 mod status;
 
+pub use elapsed::Watch;
 pub use lines::{begun_line, ended_line, ended_well};
 pub use progress::Progress;
 pub use screen::Screen;

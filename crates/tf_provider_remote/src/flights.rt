@@ -100,6 +100,17 @@ impl Flights {
         false
     }
 
+    /// Takes memory for more requests, so that adding as many doesn't fail.
+    ///
+    /// # Errors
+    ///
+    /// Fails only if memory runs out. The requests stay as they are.
+    pub fn reserve(&mut self, additional: usize) -> Result<(), AllocError>
+        ensures { self.new.flights.items ≡ self.old.flights.items }
+    {
+        self.flights.reserve(additional)
+    }
+
     /// Adds a request that was sent.
     pub fn add(&mut self, flight: Flight) -> Result<(), AllocError>
         ensures { OnOk result (self.new.flights.items ≡ self.old.flights.items ++ flight ∷ []) }
