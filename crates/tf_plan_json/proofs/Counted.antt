@@ -1,14 +1,17 @@
 -- How many items and members are sent.
-use Rattle.std.proofs.Common.{◌≡◌, ◌≤◌, ◌<◌, ◌+◌, ◌-◌, ℕ, suc, Bool, true, false, List, [], ◌∷◌, ◌++◌, String, Global, length, get_or, take, map, string_bytes, refl, sym, ap, ◌∙◌, subst, arith}
-use Rattle.std.proofs.lemmas.List.{map-append, take_more}
+use Rattle.std.proofs.Common.{◌≡◌, ◌≤◌, ◌<◌, ◌+◌, ◌-◌, ℕ, suc, Bool, true, false, List, [], ◌∷◌, ◌++◌, String, Global, length, get_or, take, map, string_bytes, refl, sym, ap, ◌∙◌, subst, append_assoc, arith}
+use Rattle.std.proofs.lemmas.List.{flat_map_more, map-append, take_more}
 use Rattle.std.specs.Int.{from_bool}
+use Rattle.std.specs.List.{flat_map}
 use Rattle.std.specs.Prelude.{if◌then◌else◌}
 use Rattle.serde_json.specs.Data.{Data, Members, member}
 use Rattle.serde_json.specs.Events.{items_len, members_len}
 use Rattle.serde_json.specs.View.{items_of}
-use Rattle.tf_plan_json.specs.Document.{variables_data}
+use Rattle.tf_plan_json.specs.Members.{members_by}
 use Rattle.tf_plan_json.specs.Parts.{false_items, is_leaf, known_data, known_items, known_members, unknown_data, unknown_items, unknown_members}
-use Rattle.tf_value_data.specs.Tree.{entries_view, is_unknown, items_view, texts_view, tree_of}
+use Rattle.tf_state_data.specs.State.{outputs_of}
+use Rattle.tf_state_data.specs.declared.object.Object.{Object}
+use Rattle.tf_value_data.specs.Tree.{Tree, entries_view, is_unknown, items_view, texts_view, tree_of}
 use Rattle.tf_value_data.specs.declared.value.Value.{Value}
 use Rattle.tf_value_data.proofs.Views.{Entry}
 
@@ -24,9 +27,13 @@ pub false_items_len : (ss : List (String Global)) → items_len (false_items (te
 false_items_len [] = refl
 false_items_len (s ∷ ss) = ap suc (false_items_len ss)
 
-pub variables_len : (es : List Entry) → members_len (variables_data (entries_view es)) ≡ length es
-variables_len [] = refl
-variables_len (e ∷ es) = ap suc (variables_len es)
+pub variables_len : (form : Tree → Data) (es : List Entry) → members_len (members_by form (entries_view es)) ≡ length es
+variables_len form [] = refl
+variables_len form (e ∷ es) = ap suc (variables_len form es)
+
+pub outputs_len : (form : Tree → Data) (es : List (String Global × Object)) → members_len (members_by form (outputs_of es)) ≡ length es
+outputs_len form [] = refl
+outputs_len form (e ∷ es) = ap suc (outputs_len form es)
 
 pub items_len-each : {A : Type 0} (f : A → Data) (xs : List A) → items_len (items_of (map f xs)) ≡ length xs
 items_len-each f [] = refl
@@ -70,8 +77,16 @@ unknown_step left rest e n count total is gives h =
 
 -- ---- one element more of a list
 
-pub listed : {A B C D : Type 0} (view : A → D) (form : C → D) (see : B → C) (made more : List A) (xs : List B) (i : ℕ) (x : B) (a : A) → i < length xs → x ≡ get_or xs i x → map view made ≡ map form (map see (take i xs))
-    → more ≡ made ++ a ∷ [] → view a ≡ form (see x) → map view more ≡ map form (map see (take (i + 1) xs))
-listed view form see made more xs i x a within is so_far pushed shown =
+pub listed : {A B C D : Type 0} (view : A → D) (form : C → D) (see : B → C) (before : List D) (made more : List A) (xs : List B) (i : ℕ) (x : B) (a : A) → i < length xs → x ≡ get_or xs i x → map view made ≡ before ++ map form (map see (take i xs))
+    → more ≡ made ++ a ∷ [] → view a ≡ form (see x) → map view more ≡ before ++ map form (map see (take (i + 1) xs))
+listed view form see before made more xs i x a within is so_far pushed shown =
+    let front = map form (map see (take i xs)) in
     let all = ap (λ ys. map form (map see ys)) (take_more xs i x within ∙ ap (λ y. take i xs ++ y ∷ []) (sym is)) ∙ ap (map form) (map-append see (take i xs) (x ∷ [])) ∙ map-append form (map see (take i xs)) (see x ∷ []) in
-    ap (map view) pushed ∙ map-append view made (a ∷ []) ∙ ap (λ ys. ys ++ view a ∷ []) so_far ∙ ap (λ d. map form (map see (take i xs)) ++ d ∷ []) shown ∙ sym all
+    ap (map view) pushed ∙ map-append view made (a ∷ []) ∙ ap (λ ys. ys ++ view a ∷ []) so_far ∙ append_assoc before front (view a ∷ []) ∙ ap (λ d. before ++ (front ++ d ∷ [])) shown ∙ ap (λ ys. before ++ ys) (sym all)
+
+-- the parts of one element more
+pub gathered : {B C D : Type 0} (parts : C → List D) (see : B → C) (old new : List D) (xs : List B) (i : ℕ) (x : B) → i < length xs → x ≡ get_or xs i x → old ≡ flat_map parts (map see (take i xs)) → new ≡ old ++ parts (see x)
+    → new ≡ flat_map parts (map see (take (i + 1) xs))
+gathered parts see old new xs i x within is so_far added =
+    let all = ap (map see) (take_more xs i x within ∙ ap (λ y. take i xs ++ y ∷ []) (sym is)) ∙ map-append see (take i xs) (x ∷ []) in
+    added ∙ ap (λ ys. ys ++ parts (see x)) so_far ∙ flat_map_more parts [] (map see (take i xs)) (see x) ∙ ap (flat_map parts) (sym all)

@@ -1,18 +1,28 @@
 -- No number of the document is a float.
-use Rattle.std.proofs.Common.{◌≡◌, ℕ, pos, negsuc, ℤ, Bool, true, false, ◌||◌, List, [], ◌∷◌, Option, Some, None, option_map, codes, refl, map as each}
+use Rattle.std.proofs.Common.{◌≡◌, ℕ, pos, negsuc, ℤ, Bool, true, false, ◌||◌, List, [], ◌∷◌, ◌++◌, Option, Some, None, option_map, codes, refl, map as each}
+use Rattle.std.proofs.lemmas.Bool.{or_parts}
+use Rattle.std.specs.List.{flat_map}
 use Rattle.std.specs.Prelude.{if◌then◌else◌}
 use Rattle.serde_json.specs.Data as json
 use Rattle.serde_json.specs.Find.{of_integer, is_float}
 use Rattle.serde_json.specs.View.{items_of}
 use Rattle.serde_json.specs.Written.{has_float, items_have_float, members_have_float}
 use Rattle.tf_config_address.specs.ObjectId.{InstanceKeyView, single, number, name}
+use Rattle.tf_config_address.specs.ResourceAddr.{ResourceAddrView}
 use Rattle.tf_plan_changes.specs.Changes.{ChangeView, KindView, create_it, update_it, replace_it, replace_late, destroy_it, changes}
+use Rattle.tf_plan_data.specs.Address.{address_text}
 use Rattle.tf_plan_data.specs.Plan.{PlanView}
-use Rattle.tf_plan_json.specs.Document.{some_member, path_data, actions_data, object_data, marks_data, after_unknown_data, paths_of, paths_data, inner_members, inner_data, entry_members, entry_data, change_data, variables_data, plan_data}
+use Rattle.tf_plan_json.specs.Document.{path_data, actions_data, object_data, after_unknown_data, paths_of, paths_data, inner_data, entry_data, change_data, variable_data, plan_data}
+use Rattle.tf_plan_json.specs.Members.{some_member, members_by}
 use Rattle.tf_plan_json.specs.Parts.{false_items, is_leaf, known_data, known_items, known_members, unknown_data, unknown_items, unknown_members}
-use Rattle.tf_state.specs.Text.{key_data}
+use Rattle.tf_plan_json.specs.Prior.{is_something, module_data, objects_data, objects_of, output_data, outputs_data, prior_data, prior_of, record_data, stored_data}
+use Rattle.tf_plan_json.specs.Reasons.{provider_source}
+use Rattle.tf_state.specs.Text.{dependencies_data, flag_data, key_data}
+use Rattle.tf_state_data.specs.Record.{RecordView}
+use Rattle.tf_state_data.specs.Resource.{ResourceView}
+use Rattle.tf_state_data.specs.State.{StateView}
 use Rattle.tf_value_data.specs.Known.{known}
-use Rattle.tf_value_data.specs.Tree.{Tree, null, boolean, whole as whole_number, text, list, map, set, unknown, Items, no_items, item, Entries, no_entries, entry, is_unknown}
+use Rattle.tf_value_data.specs.Tree.{Tree, whole as whole_number, list, map, set, Items, no_items, item, Entries, no_entries, entry, is_unknown}
 use Rattle.tf_value_json.specs.Json.{value_data, items_data, entries_data, texts_data}
 
 neither : (b c : Bool) → b ≡ false → c ≡ false → (b || c) ≡ false
@@ -146,10 +156,77 @@ changes-whole : (plan : PlanView) (cs : List ChangeView) → items_have_float (i
 changes-whole plan [] = refl
 changes-whole plan (c ∷ cs) = neither _ _ (entry-whole _ _ _ c) (changes-whole plan cs)
 
-variables-whole : (es : Entries) → members_have_float (variables_data es) ≡ false
-variables-whole no_entries = refl
-variables-whole (entry k t es) = neither _ _ (neither _ _ (value-whole t) refl) (variables-whole es)
+members_by-whole : (form : Tree → json.Data) → ((t : Tree) → has_float (form t) ≡ false) → (es : Entries) → members_have_float (members_by form es) ≡ false
+members_by-whole form each_whole no_entries = refl
+members_by-whole form each_whole (entry k t es) = neither _ _ (each_whole t) (members_by-whole form each_whole es)
+
+variable-whole : (t : Tree) → has_float (variable_data t) ≡ false
+variable-whole t = neither _ _ (value-whole t) refl
+
+-- ---- the prior state
+
+flag-whole : (b : Bool) → MayBeWhole (flag_data b)
+flag-whole true = refl
+flag-whole false = tt
+
+strings-whole : (ss : List (List ℕ)) → items_have_float (items_of (each json.string ss)) ≡ false
+strings-whole [] = refl
+strings-whole (s ∷ ss) = strings-whole ss
+
+dependencies-whole : (ss : List (List ℕ)) → MayBeWhole (dependencies_data ss)
+dependencies-whole [] = tt
+dependencies-whole (s ∷ ss) = strings-whole ss
+
+stored-whole : (address provider : List ℕ) (addr : ResourceAddrView) (r : RecordView) → has_float (stored_data address provider addr r) ≡ false
+stored-whole address provider addr r =
+    let typed = some-whole (codes "tainted") (flag_data r.tainted) (json.member (codes "type") (json.string addr.type_name) (json.member (codes "values") (value_data r.attributes) json.no_members)) (flag-whole r.tainted) (neither _ _ (value-whole r.attributes) refl) in
+    neither _ _ refl
+    (some-whole (codes "depends_on") (dependencies_data r.dependencies) _ (dependencies-whole r.dependencies)
+    (some-whole (codes "deposed_key") (option_map json.string r.id.deposed) _ (text-whole r.id.deposed) (some-whole (codes "index") (key_data r.id.key) _ (key-whole r.id.key) typed)))
+
+-- no item is a float
+abbrev AreWhole : List json.Data → Type 0
+AreWhole ds = items_have_float (items_of ds) ≡ false
+
+both-whole : (ds es : List json.Data) → AreWhole ds → AreWhole es → AreWhole (ds ++ es)
+both-whole [] es f g = g
+both-whole (d ∷ ds) es f g = let h = or_parts (has_float d) (items_have_float (items_of ds)) f in neither _ _ h.0 (both-whole ds es h.1 g)
+
+records-whole : (addr : ResourceAddrView) (rs : List RecordView) → AreWhole (each (record_data addr) rs)
+records-whole addr [] = refl
+records-whole addr (r ∷ rs) = neither _ _ (stored-whole (address_text addr r.id.key) (provider_source addr.type_name) addr r) (records-whole addr rs)
+
+resources-whole : (rs : List ResourceView) → AreWhole (flat_map objects_of rs)
+resources-whole [] = refl
+resources-whole (r ∷ rs) = both-whole (objects_of r) (flat_map objects_of rs) (records-whole r.addr r.records) (resources-whole rs)
+
+output-whole : (t : Tree) → has_float (output_data t) ≡ false
+output-whole t = neither _ _ refl (neither _ _ (value-whole t) refl)
+
+outputs-whole : (es : Entries) → MayBeWhole (outputs_data es)
+outputs-whole no_entries = tt
+outputs-whole (entry k t es) = members_by-whole output_data output-whole (entry k t es)
+
+objects-whole : (ds : List json.Data) → AreWhole ds → MayBeWhole (objects_data ds)
+objects-whole [] e = tt
+objects-whole (d ∷ ds) e = e
+
+prior_data-whole : (outputs : Entries) (ds : List json.Data) → AreWhole ds → has_float (prior_data outputs ds) ≡ false
+prior_data-whole outputs ds e =
+    let root : has_float (module_data ds) ≡ false = some-whole (codes "resources") (objects_data ds) json.no_members (objects-whole ds e) refl in
+    let values = some-whole (codes "outputs") (outputs_data outputs) (json.member (codes "root_module") (module_data ds) json.no_members) (outputs-whole outputs) (neither _ _ root refl) in
+    neither _ _ refl (neither _ _ refl (neither _ _ values refl))
+
+some_if-whole : (test : Bool) (d : json.Data) → has_float d ≡ false → MayBeWhole (if test then Some d else None)
+some_if-whole true d e = e
+some_if-whole false d e = tt
+
+prior-whole : (s : StateView) → MayBeWhole (prior_of s)
+prior-whole s = let ds = flat_map objects_of s.resources in some_if-whole (is_something s.outputs ds) (prior_data s.outputs ds) (prior_data-whole s.outputs ds (resources-whole s.resources))
+
+-- ---- the document
 
 pub plan-whole : (plan : PlanView) → has_float (plan_data plan) ≡ false
 plan-whole plan =
-    neither _ _ refl (neither _ _ refl (neither _ _ refl (neither _ _ (changes-whole plan (changes plan.late plan.actions)) (neither _ _ refl (neither _ _ (variables-whole plan.variables) refl)))))
+    neither _ _ refl (neither _ _ refl (neither _ _ refl (some-whole (codes "prior_state") (prior_of plan.prior) _ (prior-whole plan.prior)
+    (neither _ _ (changes-whole plan (changes plan.late plan.actions)) (neither _ _ refl (neither _ _ (members_by-whole variable_data variable-whole plan.variables) refl))))))

@@ -1,24 +1,20 @@
 -- The document of a plan, in the shape of Terraform's plan representation. Members are in byte order of their names.
-use Rattle.std.specs.Prelude.{ℕ, Bool, true, false, ◌+◌, if◌then◌else◌, List, [], ◌∷◌, Option, Some, None, option_map, codes, map as each}
-use Rattle.serde_json.specs.Data as json
+use Rattle.std.specs.Prelude.{ℕ, true, false, ◌+◌, if◌then◌else◌, List, [], ◌∷◌, Option, Some, None, option_map, codes, map as each}
 use Rattle.serde_json.specs.Data.{Data, null, boolean, string, array, object, item, no_items, Members, no_members, member}
 use Rattle.serde_json.specs.View.{items_of}
 use Rattle.tf_plan_changes.specs.Changes.{ChangeView, KindView, create_it, update_it, replace_it, replace_late, destroy_it, changes}
 use Rattle.tf_plan_data.specs.Address.{address_text}
 use Rattle.tf_plan_data.specs.Plan.{PlanView}
+use Rattle.tf_plan_json.specs.Members.{some_member, members_by}
 use Rattle.tf_plan_json.specs.Parts.{known_data, unknown_data}
+use Rattle.tf_plan_json.specs.Prior.{prior_of}
 use Rattle.tf_plan_json.specs.Reasons.{provider_source, reason_of}
 use Rattle.tf_state.specs.Sending.{one_if_some}
 use Rattle.tf_state.specs.Text.{key_data}
 use Rattle.tf_value_data.specs.Known.{known}
-use Rattle.tf_value_data.specs.Tree.{Tree, Entries, no_entries, entry}
+use Rattle.tf_value_data.specs.Tree.{Tree, Entries}
 use Rattle.tf_value_json.specs.Json.{value_data}
 use Rattle.tf_value_json.specs.Text.{text_of}
-
--- the members with one more before them, if there is a value for it
-abbrev pub some_member : List ℕ → Option Data → Members → Members
-some_member key None ms = ms
-some_member key (Some d) ms = member key d ms
 
 -- ---- what is done to an object
 
@@ -91,20 +87,21 @@ change_data plan c = entry_data (reason_of plan.config c) (address_text c.addr c
 abbrev pub variable_data : Tree → Data
 variable_data t = object (member (codes "value") (value_data t) no_members)
 
--- the variables by name
-abbrev pub variables_data : Entries → Members
-variables_data no_entries = no_members
-variables_data (entry k t es) = member k (variable_data t) (variables_data es)
+-- a document of variables, of a prior state if there is one, and of changes
+abbrev pub document_members : Entries → Option Data → List Data → Members
+document_members variables prior made =
+    member (codes "complete") (boolean true) (member (codes "errored") (boolean false) (member (codes "format_version") (string (codes "1.2")) (some_member (codes "prior_state") prior (member (codes "resource_changes") (array (items_of made))
+    (member (codes "terraform_version") (string (codes "1.0.0")) (member (codes "variables") (object (members_by variable_data variables)) no_members))))))
 
--- a document of variables and of changes
-abbrev pub document_data : Entries → List Data → Data
-document_data variables made =
-    object (member (codes "complete") (boolean true) (member (codes "errored") (boolean false) (member (codes "format_version") (string (codes "1.2")) (member (codes "resource_changes") (array (items_of made))
-    (member (codes "terraform_version") (string (codes "1.0.0")) (member (codes "variables") (object (variables_data variables)) no_members))))))
+abbrev pub document_data : Entries → Option Data → List Data → Data
+document_data variables prior made = object (document_members variables prior made)
 
--- the document of a plan: each of its changes once, in address order
+abbrev pub document_count : Option Data → ℕ
+document_count prior = 6 + one_if_some prior
+
+-- the document of a plan: the state that it starts from, and each of its changes once, in address order
 abbrev pub plan_data : PlanView → Data
-plan_data plan = document_data plan.variables (each (change_data plan) (changes plan.late plan.actions))
+plan_data plan = document_data plan.variables (prior_of plan.prior) (each (change_data plan) (changes plan.late plan.actions))
 
 -- the one text of the document
 abbrev pub json_text : PlanView → List ℕ

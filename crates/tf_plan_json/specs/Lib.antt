@@ -1,4 +1,6 @@
 pub mod Document
+pub mod Members
 pub mod Parts
+pub mod Prior
 pub mod Reasons
 pub mod Views

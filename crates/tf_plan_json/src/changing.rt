@@ -53,7 +53,7 @@ fn outer_count(entry: &Entry<'_>) -> usize
         + usize::from(has_index(entry.change.key))
 }
 
-fn has_index(key: &InstanceKey) -> bool
+pub(crate) fn has_index(key: &InstanceKey) -> bool
     ensures { result ≡ is_some (key_data (instance_key_of key.now)) }
 {
     match key {
@@ -90,7 +90,7 @@ fn send_deposed<S: Serializer>(deposed: Option<&String>, out: &mut S) -> Result<
     }
 }
 
-fn send_index<S: Serializer>(key: &InstanceKey, out: &mut S) -> Result<(), S::Error>
+pub(crate) fn send_index<S: Serializer>(key: &InstanceKey, out: &mut S) -> Result<(), S::Error>
     ensures { OnOk result (SendsSome (codes "index") (key_data (instance_key_of key.now)) (S.written out.old) (S.written out.new)) }
 {
     match key {
@@ -199,7 +199,7 @@ fn send_marks<S: Serializer>(object: &Value, out: &mut S) -> Result<(), S::Error
     }
 }
 
-fn send_empty<S: Serializer>(out: &mut S) -> Result<(), S::Error>
+pub(crate) fn send_empty<S: Serializer>(out: &mut S) -> Result<(), S::Error>
     ensures { OnOk result (SendsValue (object no_members) (S.written out.old) (S.written out.new)) }
 {
     out.begin_map(Some(0))?;

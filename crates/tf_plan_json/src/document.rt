@@ -5,21 +5,28 @@ ghost use Rattle.serde_json.specs.Data.{array, object};
 ghost use Rattle.serde_json.specs.Events.{SendsValue};
 ghost use Rattle.serde_json.specs.View.{items_of};
 ghost use Rattle.tf_plan_data.specs.Plan.{plan_of};
-ghost use Rattle.tf_plan_json.specs.Document.{document_data, json_text, variable_data, variables_data};
-ghost use Rattle.tf_plan_json.specs.Views.{entry_view};
+ghost use Rattle.tf_plan_json.specs.Document.{document_count, document_data, json_text, variable_data};
+ghost use Rattle.tf_plan_json.specs.Members.{members_by};
+ghost use Rattle.tf_plan_json.specs.Prior.{some_prior};
+ghost use Rattle.tf_plan_json.specs.Views.{entry_view, stored_view};
+ghost use Rattle.tf_state_data.specs.State.{outputs_of};
 ghost use Rattle.tf_value_data.specs.Tree.{entries_view, tree_of};
 
 use crate::changing::send_entry;
 use crate::listing::{Entry, entries};
+use crate::prior::{Stored, stored_objects};
+use crate::prior_sending::{is_something, send_prior};
 use serde::{Described, Serialize, Serializer};
 use std::alloc::{AllocError, Global};
 use std::collections::BTreeMap;
 use tf_plan_data::Plan;
+use tf_state_data::Object;
 use tf_value_data::Value;
 use tf_value_json::AsJson;
 
-/// Returns a plan as one JSON document, in the shape of Terraform's plan representation: its variables and its changes,
-/// in address order, each once. Two spaces a level, keys in byte order, and one newline at the end.
+/// Returns a plan as one JSON document, in the shape of Terraform's plan representation: its variables, the state that
+/// it starts from, and its changes, in address order, each once. Two spaces a level, keys in byte order, and one
+/// newline at the end.
 ///
 /// # Errors
 ///
@@ -27,9 +34,12 @@ use tf_value_json::AsJson;
 pub fn json_text(alloc: Global, plan: &Plan) -> Result<String, AllocError>
     ensures { IfOk result (λ text. string_bytes text ≡ json_text (plan_of plan.now)) }
 {
+    let objects = stored_objects(alloc, &plan.prior)?;
     let entries = entries(alloc, plan)?;
     let document = PlanDocument {
         variables: &plan.variables,
+        outputs: plan.prior.outputs(),
+        objects: objects.as_slice(),
         entries: entries.as_slice(),
     };
     match tf_value_json::text(alloc, &document) {
@@ -42,34 +52,49 @@ pub fn json_text(alloc: Global, plan: &Plan) -> Result<String, AllocError>
 /// What the document has of a plan.
 #[derive(Drop)]
 struct PlanDocument<'a> {
+    /// The values of the variables.
     variables: &'a BTreeMap<String, Value>,
+    /// The outputs of the prior state.
+    outputs: &'a BTreeMap<String, Object>,
+    /// The objects of the prior state.
+    objects: &'a [Stored<'a>],
+    /// The changes.
     entries: &'a [Entry<'a>],
 }
 
 impl Described for PlanDocument<'_> {
-    ghost writes = { λ it. SendsValue (document_data (entries_view it.variables.now.entries) (map entry_view it.entries.now)) };
+    ghost writes = { λ it. SendsValue (document_data (entries_view it.variables.now.entries) (some_prior (outputs_of it.outputs.now.entries) (map stored_view it.objects.now)) (map entry_view it.entries.now)) };
 }
 
 impl Serialize for PlanDocument<'_> {
     fn serialize<S: Serializer>(&self, out: &mut S) -> Result<(), S::Error> {
-        send_document(self.variables, self.entries, out)
+        send_document(
+            self.variables,
+            self.outputs,
+            self.objects,
+            self.entries,
+            out,
+        )
     }
 }
 
 fn send_document<S: Serializer>(
     variables: &BTreeMap<String, Value>,
+    outputs: &BTreeMap<String, Object>,
+    objects: &[Stored<'_>],
     entries: &[Entry<'_>],
     out: &mut S,
 ) -> Result<(), S::Error>
-    ensures { OnOk result (SendsValue (document_data (entries_view variables.now.entries) (map entry_view entries.now)) (S.written out.old) (S.written out.new)) }
+    ensures { OnOk result (SendsValue (document_data (entries_view variables.now.entries) (some_prior (outputs_of outputs.now.entries) (map stored_view objects.now)) (map entry_view entries.now)) (S.written out.old) (S.written out.new)) }
 {
-    out.begin_map(Some(6))?;
+    out.begin_map(Some(document_count(outputs, objects)))?;
     out.key("complete")?;
     out.bool(true)?;
     out.key("errored")?;
     out.bool(false)?;
     out.key("format_version")?;
     out.str("1.2")?;
+    send_prior(outputs, objects, out)?;
     out.key("resource_changes")?;
     send_entries(entries, out)?;
     out.key("terraform_version")?;
@@ -77,6 +102,13 @@ fn send_document<S: Serializer>(
     out.key("variables")?;
     send_variables(variables, out)?;
     out.end_map()
+}
+
+/// Counts the members of the document: six, and the prior state if it has an output or an object.
+fn document_count(outputs: &BTreeMap<String, Object>, objects: &[Stored<'_>]) -> usize
+    ensures { result ≡ document_count (some_prior (outputs_of outputs.now.entries) (map stored_view objects.now)) }
+{
+    if is_something(outputs, objects) { 7 } else { 6 }
 }
 
 fn send_entries<S: Serializer>(entries: &[Entry<'_>], out: &mut S) -> Result<(), S::Error>
@@ -93,7 +125,7 @@ fn send_variables<S: Serializer>(
     variables: &BTreeMap<String, Value>,
     out: &mut S,
 ) -> Result<(), S::Error>
-    ensures { OnOk result (SendsValue (object (variables_data (entries_view variables.now.entries))) (S.written out.old) (S.written out.new)) }
+    ensures { OnOk result (SendsValue (object (members_by variable_data (entries_view variables.now.entries))) (S.written out.old) (S.written out.new)) }
 {
     out.begin_map(Some(variables.len()))?;
     for (name, value) in variables.iter() {

@@ -5,6 +5,8 @@ mod changing;
 mod document;
 mod known;
 mod listing;
+mod prior;
+mod prior_sending;
 mod reasons;
 mod unknown;
 

@@ -50,7 +50,7 @@ fn entry_for<'a>(alloc: Global, plan: &Plan, change: Change<'a>) -> Result<Entry
 }
 
 /// Returns the source address of the provider of a resource type.
-fn provider_source(alloc: Global, type_name: &str) -> Result<String, AllocError>
+pub(crate) fn provider_source(alloc: Global, type_name: &str) -> Result<String, AllocError>
     ensures { IfOk result (λ text. string_bytes text ≡ provider_source type_name.now) }
 {
     let mut text = String::from_str(alloc, "registry.terraform.io/hashicorp/")?;

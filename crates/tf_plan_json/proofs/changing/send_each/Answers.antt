@@ -1,4 +1,4 @@
-use Rattle.std.proofs.Common.{map, string_bytes, refl, sym, ◌∙◌, arith}
+use Rattle.std.proofs.Common.{map, string_bytes, refl, sym, arith}
 use Rattle.std.proofs.lemmas.List.{drop_all}
 use Rattle.serde_json.specs.View.{items_of}
 use Rattle.tf_plan_data.specs.Action.{names_of}

@@ -1,0 +1,13 @@
+use Rattle.std.proofs.Common.{map}
+use Rattle.std.proofs.lemmas.Result.{on_ok_weaker}
+use Rattle.tf_plan_json.specs.Views.{stored_view}
+use Rattle.tf_plan_json.proofs.Sent.{values_sent}
+use Rattle.tf_state_data.specs.State.{outputs_of}
+use Rattle.tf_plan_json.proofs.prior_sending.send_values.Goals as goal
+
+pub returns : goal.returns
+returns g c =
+    on_ok_weaker c.end_map.result
+    (λ done. values_sent (outputs_of c.args.outputs.now.entries) (map stored_view c.args.objects.now) c.values_count.result _ _ _ _ _ c.values_count.ensures c.in_ok-begin_map.ensures c.in_ok-send_outputs.ensures
+    (_, c.in_ok-key.ensures, c.in_ok-send_module.ensures) done)
+    c.end_map.ensures
