@@ -11,6 +11,7 @@ mod shape;
 mod shape_bodies;
 mod template;
 mod terms;
+mod used;
 
 use crate::causes::arguments::explain_argument;
 use crate::causes::cycle::{

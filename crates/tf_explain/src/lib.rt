@@ -7,6 +7,7 @@
 
 mod blocks;
 mod causes;
+mod code;
 mod decoding;
 mod excerpt;
 mod explained;

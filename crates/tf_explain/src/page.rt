@@ -1,11 +1,12 @@
 //! An explanation while it is written.
 
+use crate::code::find_in_code;
 use crate::excerpt::push_excerpt;
 use crate::near::Nearest;
 use crate::positions::Found;
 use crate::shown::push_shown;
 use crate::sources::SourceFile;
-use crate::span::{Span, find_word};
+use crate::span::Span;
 use std::alloc::{AllocError, Global};
 
 /// The most excerpts in one explanation.
@@ -54,7 +55,7 @@ impl Page {
         push_excerpt(self.alloc, &mut self.text, file, span)
     }
 
-    /// Adds the place of a word within a range, or all of the range if the word isn't in it.
+    /// Adds the first place of a word in the expressions of a template, or all of the template if the word isn't in them.
     ///
     /// # Errors
     ///
@@ -62,10 +63,11 @@ impl Page {
     pub(crate) fn show_word(
         &mut self,
         file: SourceFile<'_>,
-        within: Span,
+        template: Span,
         word: &str,
     ) -> Result<(), AllocError> {
-        self.show(file, find_word(file.bytes, within, word).unwrap_or(within))
+        let found = find_in_code(file.bytes, template, template.start, word, 0);
+        self.show(file, found.unwrap_or(template))
     }
 
     /// Adds that a property is in its object twice, if it is, with its earlier place.

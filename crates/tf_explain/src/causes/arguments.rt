@@ -207,7 +207,9 @@ fn explain_misfit(
     match member_named(config.bytes, variable.value, "type") {
         Some(member) => {
             let type_name = text_in(page.alloc, config.bytes, member.value)?;
-            say_misfit(page, name, type_name.as_str())
+            say_misfit(page, name, type_name.as_str())?;
+            page.say(&["The type is declared here:"])?;
+            page.show(config, member.value)
         }
         None => say_misfit(page, name, "any"),
     }

@@ -2,11 +2,12 @@
 
 use crate::blocks::{block, block_has, consider_members, declaration};
 use crate::causes::evaluation::ReadText;
+use crate::causes::used::{Used, address_of, after_first_byte, shrunk};
 use crate::near::Nearest;
 use crate::page::Page;
 use crate::positions::{Member, is_comment, items, member_named, top};
 use crate::sources::{SourceFile, Sources};
-use crate::span::{Span, byte_at, find_bytes};
+use crate::span::{Span, byte_at};
 use std::alloc::AllocError;
 use tf_expr_syntax::{Function, Operator, Reference, Template, Term};
 use tf_provider_protocol::{Schema, schema_for};
@@ -18,10 +19,11 @@ use tf_provider_protocol::{Schema, schema_for};
 /// Fails only if memory runs out.
 pub(crate) fn explain_missing(page: &mut Page, text: ReadText<'_, '_>) -> Result<bool, AllocError> {
     let mut is_found = false;
-    for term in text.terms {
+    for (number, term) in text.terms.iter().enumerate() {
+        let used = Used { text, number };
         let is_explained = match *term {
-            Term::Attribute(inner, name) => missing_attribute(page, text, &**inner, name.as_str())?,
-            Term::Index(inner, place) => missing_element(page, text, &**inner, &**place)?,
+            Term::Attribute(inner, name) => missing_attribute(page, used, &**inner, name.as_str())?,
+            Term::Index(inner, place) => missing_element(page, used, &**inner, &**place)?,
             _ => false,
         };
         is_found = is_found || is_explained;
@@ -44,7 +46,7 @@ fn base_of(term: &Term) -> Option<&Reference> {
 /// Explains an attribute that its object doesn't have.
 fn missing_attribute<'a>(
     page: &mut Page,
-    text: ReadText<'_, '_>,
+    used: Used<'_, '_>,
     inner: &'a Term,
     name: &'a str,
 ) -> Result<bool, AllocError> {
@@ -52,14 +54,14 @@ fn missing_attribute<'a>(
         return Ok(false);
     };
     let type_name = reference.first.as_str();
-    match schema_for(text.sources.providers, type_name) {
+    match schema_for(used.text.sources.providers, type_name) {
         Some(schema) if schema.attribute(name).is_none() => {
-            show_attribute(page, text, name)?;
+            show_attribute(page, used, reference, name)?;
             say_attribute(page, type_name, name, schema)?;
             Ok(true)
         }
         Some(_) => Ok(false),
-        None => missing_key(page, text, inner, name),
+        None => missing_key(page, used, inner, name),
     }
 }
 
@@ -85,29 +87,28 @@ pub(crate) fn say_attribute<'a>(
 }
 
 /// Shows an attribute's name in a text after its dot, or all of the text.
-fn show_attribute(page: &mut Page, text: ReadText<'_, '_>, name: &str) -> Result<(), AllocError> {
+fn show_attribute(
+    page: &mut Page,
+    used: Used<'_, '_>,
+    reference: &Reference,
+    name: &str,
+) -> Result<(), AllocError> {
     let wanted = format!(in page.alloc; ".{name}")?;
-    show_part(page, text, wanted.as_str())
-}
-
-/// Shows a part of a text, or all of it.
-fn show_part(page: &mut Page, text: ReadText<'_, '_>, part: &str) -> Result<(), AllocError> {
-    let config = text.sources.config;
-    let span = find_bytes(config.bytes, text.span, part).unwrap_or(text.span);
-    page.show(config, span)
+    let found = used.after(page, reference, wanted.as_str())?;
+    used.show(page, found)
 }
 
 /// Explains an index beyond a list, or a key that a map doesn't have.
 fn missing_element<'a>(
     page: &mut Page,
-    text: ReadText<'_, '_>,
+    used: Used<'_, '_>,
     inner: &'a Term,
     place: &'a Term,
 ) -> Result<bool, AllocError> {
     match place {
-        Term::Number(index) => missing_index(page, text, inner, *index),
+        Term::Number(index) => missing_index(page, used, inner, *index),
         Term::Quoted(template) if template.parts.is_empty() => {
-            missing_key(page, text, inner, template.last.as_str())
+            missing_key(page, used, inner, template.last.as_str())
         }
         _ => Ok(false),
     }
@@ -148,11 +149,11 @@ pub(crate) fn value_of_variable<'a>(
 /// Explains an index beyond a list that is written out.
 fn missing_index(
     page: &mut Page,
-    text: ReadText<'_, '_>,
+    used: Used<'_, '_>,
     inner: &Term,
     index: u64,
 ) -> Result<bool, AllocError> {
-    let Some((file, span)) = value_of(inner, text.sources) else {
+    let Some((file, span)) = value_of(inner, used.text.sources) else {
         return Ok(false);
     };
     if byte_at(file.bytes, span.start) != b'[' {
@@ -162,22 +163,32 @@ fn missing_index(
     if index < count {
         return Ok(false);
     }
-    show_index(page, text, index)?;
+    show_index(page, used, inner, index)?;
     say_index(page, count, index)?;
     page.show(file, span)?;
     Ok(true)
 }
 
 /// Shows an index in a text, or all of it.
-fn show_index(page: &mut Page, text: ReadText<'_, '_>, index: u64) -> Result<(), AllocError> {
+fn show_index(
+    page: &mut Page,
+    used: Used<'_, '_>,
+    inner: &Term,
+    index: u64,
+) -> Result<(), AllocError> {
+    let Some(reference) = base_of(inner) else {
+        return used.show(page, None);
+    };
     let wanted = format!(in page.alloc; "[{index}]")?;
-    show_part(page, text, wanted.as_str())
+    let found = used.after(page, reference, wanted.as_str())?;
+    used.show(page, found)
 }
 
 /// Says that a list has too few elements for an index.
 fn say_index(page: &mut Page, count: u64, index: u64) -> Result<(), AllocError> {
+    let elements = if count == 1 { "element" } else { "elements" };
     let sentence = format!(in page.alloc;
-        "The list has {count} elements, counted from 0, so there is no [{index}]:"
+        "The list has {count} {elements}, counted from 0, so there is no [{index}]:"
     )?;
     page.say(&[sentence.as_str()])
 }
@@ -185,21 +196,40 @@ fn say_index(page: &mut Page, count: u64, index: u64) -> Result<(), AllocError> 
 /// Explains a key that a map that is written out doesn't have.
 fn missing_key(
     page: &mut Page,
-    text: ReadText<'_, '_>,
+    used: Used<'_, '_>,
     inner: &Term,
     key: &str,
 ) -> Result<bool, AllocError> {
-    let Some((file, map)) = value_of(inner, text.sources) else {
+    let Some((file, map)) = value_of(inner, used.text.sources) else {
         return Ok(false);
     };
     let is_map = byte_at(file.bytes, map.start) == b'{';
     if !is_map || has_key(file.bytes, map, key) {
         return Ok(false);
     }
-    show_part(page, text, key)?;
+    show_key(page, used, inner, key)?;
     say_key(page, file, map, key)?;
     page.show(file, map)?;
     Ok(true)
+}
+
+/// Shows a key in a text, between quotes or after a dot, or all of the text.
+fn show_key(
+    page: &mut Page,
+    used: Used<'_, '_>,
+    inner: &Term,
+    key: &str,
+) -> Result<(), AllocError> {
+    let Some(reference) = base_of(inner) else {
+        return used.show(page, None);
+    };
+    let quoted = format!(in page.alloc; "[\\\"{key}\\\"]")?;
+    if let Some(found) = used.after(page, reference, quoted.as_str())? {
+        return used.show(page, Some(shrunk(found, 3)));
+    }
+    let dotted = format!(in page.alloc; ".{key}")?;
+    let found = used.after(page, reference, dotted.as_str())?;
+    used.show(page, found.map(after_first_byte))
 }
 
 /// Returns whether a map has a key. A comment is none.
@@ -224,7 +254,7 @@ fn say_key(page: &mut Page, file: SourceFile<'_>, map: Span, key: &str) -> Resul
 /// Fails only if memory runs out.
 pub(crate) fn explain_arity(page: &mut Page, text: ReadText<'_, '_>) -> Result<bool, AllocError> {
     let mut is_found = false;
-    for term in text.terms {
+    for (number, term) in text.terms.iter().enumerate() {
         let Term::Call(name, arguments) = *term else {
             continue;
         };
@@ -234,12 +264,25 @@ pub(crate) fn explain_arity(page: &mut Page, text: ReadText<'_, '_>) -> Result<b
         };
         let count = arguments.len();
         if !function.takes(count) {
-            page.show_word(text.sources.config, text.span, name)?;
+            show_call(page, Used { text, number }, name)?;
             say_arity(page, name, takes(function), count)?;
             is_found = true;
         }
     }
     Ok(is_found)
+}
+
+/// Shows the name of a function that is called, or all of the text.
+fn show_call(page: &mut Page, used: Used<'_, '_>, name: &str) -> Result<(), AllocError> {
+    let mut earlier = 0usize;
+    for term in used.text.terms.iter().take(used.number) {
+        if let Term::Call(other, _) = *term
+            && other.as_str() == name
+        {
+            earlier = earlier.saturating_add(1);
+        }
+    }
+    used.show(page, used.word(name, earlier))
 }
 
 /// Says how many arguments a function takes, and how many it has.
@@ -272,24 +315,44 @@ pub(crate) fn explain_wrong_kind(
     text: ReadText<'_, '_>,
 ) -> Result<bool, AllocError> {
     let mut is_found = false;
-    for term in text.terms {
-        if instances_mistaken(page, text, *term)? {
+    for (number, term) in text.terms.iter().enumerate() {
+        if instances_mistaken(page, Used { text, number }, *term)? {
             is_found = true;
         }
     }
     if is_found {
         return Ok(true);
     }
-    for term in text.terms {
-        if let Some(sentence) = what_is_taken(*term) {
-            if !is_found {
-                page.show(text.sources.config, text.span)?;
-            }
-            page.say(&[sentence])?;
-            is_found = true;
+    say_what_is_taken(page, text)
+}
+
+/// Says which values the parts of an expression take, each sentence once. Returns whether there are such parts.
+fn say_what_is_taken(page: &mut Page, text: ReadText<'_, '_>) -> Result<bool, AllocError> {
+    let mut sentences: Vec<&'static str> = Vec::new(page.alloc);
+    let mut only = None;
+    for (number, term) in text.terms.iter().enumerate() {
+        let Some(sentence) = what_is_taken(*term) else {
+            continue;
+        };
+        only = match (*term, sentences.is_empty()) {
+            (Term::Call(name, _), true) => Some((number, name.as_str())),
+            _ => None,
+        };
+        if !sentences.contains(&sentence) {
+            sentences.push(sentence)?;
         }
     }
-    Ok(is_found)
+    if sentences.is_empty() {
+        return Ok(false);
+    }
+    match only {
+        Some((number, name)) => show_call(page, Used { text, number }, name)?,
+        None => page.show(text.sources.config, text.span)?,
+    }
+    for sentence in &sentences {
+        page.say(&[*sentence])?;
+    }
+    Ok(true)
 }
 
 /// Explains a list, a map or null that is part of a text. Returns whether it found one.
@@ -306,13 +369,16 @@ pub(crate) fn explain_joined(
     if template.parts.len() < 2 && is_alone(template) {
         return Ok(false);
     }
-    page.show(sources.config, span)?;
+    let mut is_shown = false;
+    for part in &template.parts {
+        is_shown = show_joined(page, span, &part.1, sources)? || is_shown;
+    }
+    if !is_shown {
+        page.show(sources.config, span)?;
+    }
     page.say(&[
         "A text joins texts, whole numbers and truth values. A list, a map, a set or null can't be part of it.",
     ])?;
-    for part in &template.parts {
-        show_joined(page, &part.1, sources)?;
-    }
     Ok(true)
 }
 
@@ -324,21 +390,41 @@ fn is_alone(template: &Template) -> bool {
     }
 }
 
-/// Shows the value of a variable or a local, if it can't be part of a text.
-fn show_joined(page: &mut Page, term: &Term, sources: Sources<'_>) -> Result<(), AllocError> {
-    let Some((file, span)) = value_of(term, sources) else {
-        return Ok(());
+/// Shows a variable or a local in a text, and its value, if it can't be part of the text. Returns whether it did.
+fn show_joined(
+    page: &mut Page,
+    template: Span,
+    term: &Term,
+    sources: Sources<'_>,
+) -> Result<bool, AllocError> {
+    let Some((file, value)) = value_of(term, sources) else {
+        return Ok(false);
     };
-    match byte_at(file.bytes, span.start) {
-        b'[' | b'{' | b'n' => page.show(file, span),
-        _ => Ok(()),
-    }
+    let Term::Reference(reference) = term else {
+        return Ok(false);
+    };
+    let kind = match byte_at(file.bytes, value.start) {
+        b'[' => "a list",
+        b'{' => "a map",
+        b'n' => "null",
+        _ => return Ok(false),
+    };
+    let address = address_of(page, reference)?;
+    page.show_word(sources.config, template, address.as_str())?;
+    say_kind(page, address.as_str(), kind)?;
+    page.show(file, value)?;
+    Ok(true)
+}
+
+/// Says of which kind a value is.
+fn say_kind<'a>(page: &mut Page, name: &'a str, kind: &'a str) -> Result<(), AllocError> {
+    page.say(&["`", name, "` is ", kind, ":"])
 }
 
 /// Explains a resource with `count` or `for_each` that is used without an index, or one without them that is used with an index.
 fn instances_mistaken(
     page: &mut Page,
-    text: ReadText<'_, '_>,
+    used: Used<'_, '_>,
     term: &Term,
 ) -> Result<bool, AllocError> {
     let (inner, is_index) = match term {
@@ -349,7 +435,7 @@ fn instances_mistaken(
     let Term::Reference(reference) = inner else {
         return Ok(false);
     };
-    let config = text.sources.config;
+    let config = used.text.sources.config;
     let (first, name) = (reference.first.as_str(), reference.name.as_str());
     let Some(block) = block(config.bytes, first, name) else {
         return Ok(false);
@@ -358,8 +444,11 @@ fn instances_mistaken(
     if is_index == instances.are_many() {
         return Ok(false);
     }
-    let address = format!(in page.alloc; "{first}.{name}")?;
-    say_mistaken(page, text, address.as_str(), instances)
+    let found = used.reference(page, reference)?;
+    used.show(page, found)?;
+    let address = address_of(page, reference)?;
+    say_instances(page, address.as_str(), instances)?;
+    Ok(true)
 }
 
 /// How a block has instances.
@@ -387,18 +476,6 @@ impl Instances {
     fn are_many(self) -> bool {
         !matches!(self, Instances::One)
     }
-}
-
-/// Explains how the instances of a resource are used. Returns true.
-fn say_mistaken(
-    page: &mut Page,
-    text: ReadText<'_, '_>,
-    address: &str,
-    instances: Instances,
-) -> Result<bool, AllocError> {
-    page.show_word(text.sources.config, text.span, address)?;
-    say_instances(page, address, instances)?;
-    Ok(true)
 }
 
 /// Says how the instances of a resource are used.
@@ -430,9 +507,7 @@ fn say_instances(page: &mut Page, address: &str, instances: Instances) -> Result
 fn what_is_taken(term: &Term) -> Option<&'static str> {
     match term {
         Term::Call(name, _) => match Function::named(name.as_str())? {
-            Function::Length => Some(
-                "`length` takes a list, a map or a set. A text has no length here.",
-            ),
+            Function::Length => Some("`length` takes a list, a map or a set, and no text."),
             Function::Keys => Some("`keys` takes a map."),
             Function::Values => Some("`values` takes a map."),
             Function::Merge => Some("`merge` takes maps."),

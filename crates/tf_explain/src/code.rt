@@ -1,0 +1,132 @@
+//! Places in the expressions of a template, as JSON spells it.
+
+use crate::span::{Span, byte_at, bytes_in, is_name_byte};
+
+/// Returns where a part of an expression is, such as a name, in the expressions of a template. The template is a JSON text, whose
+/// quotes are in the range. Only parts at a position or after it count, and of these the given number of first ones is skipped.
+pub(crate) fn find_in_code(
+    text: &[u8],
+    template: Span,
+    from: usize,
+    part: &str,
+    skipped: usize,
+) -> Option<Span> {
+    let mut left = skipped;
+    let mut reader = Reader::new(template);
+    for _ in template.start..template.end {
+        let span = reader.span(part.len());
+        if span.end > template.end {
+            return None;
+        }
+        if reader.is_in_code() && span.start >= from && is_whole(text, span, part) {
+            if left == 0 {
+                return Some(span);
+            }
+            left -= 1;
+        }
+        reader = reader.next(text);
+    }
+    None
+}
+
+/// Returns whether these bytes are in a range, and no name continues before or after them.
+fn is_whole(text: &[u8], span: Span, part: &str) -> bool {
+    if bytes_in(text, span) != part.as_bytes() {
+        return false;
+    }
+    let before = byte_at(text, span.start.saturating_sub(1));
+    let last = byte_at(text, span.end.saturating_sub(1));
+    let is_begun = is_name_byte(before) || before == b'.';
+    let begins = !is_name_byte(byte_at(text, span.start)) || !is_begun;
+    let ends = !is_name_byte(last) || !is_name_byte(byte_at(text, span.end));
+    begins && ends
+}
+
+/// A position in a template, and how many `${` and quotes are open there: an odd number in an expression.
+#[derive(Clone, Copy)]
+struct Reader {
+    at: usize,
+    open: usize,
+}
+
+impl Reader {
+    /// Returns the beginning of a template.
+    fn new(template: Span) -> Reader {
+        Reader {
+            at: template.start,
+            open: 0,
+        }
+    }
+
+    /// Returns whether the position is in an expression.
+    fn is_in_code(self) -> bool {
+        self.open % 2 == 1
+    }
+
+    /// Returns the range of this length that begins at the position.
+    fn span(self, length: usize) -> Span {
+        Span {
+            start: self.at,
+            end: self.at.saturating_add(length),
+        }
+    }
+
+    /// Returns the next position.
+    fn next(self, text: &[u8]) -> Reader {
+        let pair = (
+            byte_at(text, self.at),
+            byte_at(text, self.at.saturating_add(1)),
+        );
+        if self.is_in_code() {
+            return match pair {
+                (b'}', _) => self.close(1),
+                (b'\\', b'"') => self.open(),
+                _ => self.pass(1),
+            };
+        }
+        match pair {
+            (b'$', b'$') | (b'%', b'%') => self.pass_escape(text),
+            (b'$', b'{') | (b'%', b'{') => self.open(),
+            (b'\\', b'"') if self.open > 0 => self.close(2),
+            (b'\\', b'\\') if self.open > 0 => self.pass_spelled(text),
+            (b'\\', _) => self.pass(2),
+            _ => self.pass(1),
+        }
+    }
+
+    /// Passes the two bytes that open an expression or a text in it.
+    fn open(self) -> Reader {
+        Reader {
+            at: self.at.saturating_add(2),
+            open: self.open.saturating_add(1),
+        }
+    }
+
+    /// Passes the bytes that close an expression or a text in it.
+    fn close(self, length: usize) -> Reader {
+        Reader {
+            at: self.at.saturating_add(length),
+            open: self.open.saturating_sub(1),
+        }
+    }
+
+    /// Passes a number of bytes.
+    fn pass(self, length: usize) -> Reader {
+        Reader {
+            at: self.at.saturating_add(length),
+            open: self.open,
+        }
+    }
+
+    /// Passes `$${` or `%%{`, which open nothing, or else one byte.
+    fn pass_escape(self, text: &[u8]) -> Reader {
+        let third = byte_at(text, self.at.saturating_add(2));
+        self.pass(if third == b'{' { 3 } else { 1 })
+    }
+
+    /// Passes a backslash in a text of an expression, and the character that it escapes.
+    fn pass_spelled(self, text: &[u8]) -> Reader {
+        let third = byte_at(text, self.at.saturating_add(2));
+        self.pass(if third == b'\\' { 4 } else { 3 })
+    }
+}
