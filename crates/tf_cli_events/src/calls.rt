@@ -4,6 +4,7 @@ use crate::event::Writer;
 use crate::hooks::{begun_event, ended_event};
 use std::alloc::{AllocError, Global};
 use std::rt::Clock;
+use tf_provider_progress::Watch;
 use tf_provider_protocol::{Reply, Request};
 
 /// Writes the events of calls. Without a writer it writes nothing. An event that can't be built is left out.
@@ -24,6 +25,14 @@ impl<W: Writer, C: Clock + Drop> CallEvents<W, C> {
         }
     }
 
+    /// Starts the watch of a call. It reads the clock only if there is a writer.
+    pub fn watch(&self) -> Option<Watch> {
+        match &self.writer {
+            Some(_) => Some(Watch::start(&self.clock)),
+            None => None,
+        }
+    }
+
     /// Writes the event of a call that begins.
     pub fn begin(&self, request: &Request) {
         if let Some(writer) = &self.writer {
@@ -31,9 +40,13 @@ impl<W: Writer, C: Clock + Drop> CallEvents<W, C> {
         }
     }
 
-    /// Writes the event of a call that ended, after these seconds if they are known.
-    pub fn end(&self, request: &Request, reply: &Reply, seconds: Option<u64>) {
+    /// Writes the event of a call that ended, and how long it took if it has a watch.
+    pub fn end(&self, request: &Request, reply: &Reply, watch: Option<Watch>) {
         if let Some(writer) = &self.writer {
+            let seconds = match watch {
+                Some(watch) => watch.seconds(&self.clock),
+                None => None,
+            };
             write_event(
                 writer,
                 ended_event(self.alloc, &self.clock, request, reply, seconds),

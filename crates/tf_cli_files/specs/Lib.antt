@@ -1,5 +1,5 @@
 pub mod Assigned
 pub mod Kept
-pub mod Past
+pub mod Unfinished
 pub mod Program
 pub mod Sources

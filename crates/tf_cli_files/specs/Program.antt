@@ -7,6 +7,8 @@ use Rattle.tf_cli_lines.specs.Lines.{refusal_line}
 use Rattle.tf_config_refusal.specs.Refusal.{no_memory}
 use Rattle.std.specs.declared.alloc.Global.{Global}
 use Rattle.tf_cli_files.specs.Sources.{EachRead}
+use Rattle.std.specs.declared.io.Error.{Error}
+use Rattle.tf_cli_files.specs.declared.ending.Ending.{Ending}
 use Rattle.tf_cli_options.specs.declared.words.VariableSource.{VariableSource}
 use Rattle.tf_cli_variables.specs.Choice.{AreVariables}
 use Rattle.tf_cli_variables.specs.declared.source.Source.{Source}
@@ -19,15 +21,19 @@ IsFailure status = exit_status status ≡ 1
 abbrev pub unread_line : List ℕ → List ℕ
 unread_line file = codes "error: cannot read " ++ (file ++ 10 ∷ [])
 
--- What was read of a file is the result. If it can't be read, the program ends with status 1.
-abbrev pub GoesOn : {X E : Type 0} → Result X E → Result X ExitCode → Type 0
+-- a program ends before its work, with status 1
+abbrev pub Fails : Ending → Type 0
+Fails ending = IsFailure ending.status
+
+-- What was read of a file is the result. If it can't be read, the program ends with status 1, and the cause is the system's error.
+abbrev pub GoesOn : {X : Type 0} → Result X Error → Result X Ending → Type 0
 GoesOn (Ok x) result = result ≡ Ok x
-GoesOn (Err error) result = MatchResult result (λ _. ⊥) IsFailure
+GoesOn (Err error) result = MatchResult result (λ _. ⊥) (λ ending. Fails ending × ending.cause ≡ Some error)
 
 -- if a file can't be read, that is printed, and nothing else is
-abbrev pub TellsUnread : {X E : Type 0} → Result X E → List ℕ → Option (List ℕ) → Option (List ℕ) → Type 0
-TellsUnread (Ok x) file old new = new ≡ old
-TellsUnread (Err error) file old new = AppendsStart old new (unread_line file)
+abbrev pub PrintsUnread : {X E : Type 0} → Result X E → List ℕ → Option (List ℕ) → Option (List ℕ) → Type 0
+PrintsUnread (Ok x) file old new = new ≡ old
+PrintsUnread (Err error) file old new = AppendsStart old new (unread_line file)
 
 -- A file that doesn't exist gives nothing, and an existing one was read.
 abbrev pub ReadsOptional : {X E : Type 0} → (E → Type 0) → (List ℕ → Result X E → Type 0) → List ℕ → Option X → Type 0
@@ -50,7 +56,7 @@ Ends IsWant (Err error) result =
     (IsWant error → MatchResult result IsFailure (λ _. ⊥)) × ((IsWant error → ⊥) → result ≡ Err error)
 
 -- out of memory is printed as a refusal, and nothing else is printed at the end
-abbrev pub TellsEnd : {E : Type 0} → (E → Type 0) → Result ExitCode E → Option (List ℕ) → Option (List ℕ) → Type 0
-TellsEnd IsWant (Ok status) old new = new ≡ old
-TellsEnd IsWant (Err error) old new =
+abbrev pub PrintsEnd : {E : Type 0} → (E → Type 0) → Result ExitCode E → Option (List ℕ) → Option (List ℕ) → Type 0
+PrintsEnd IsWant (Ok status) old new = new ≡ old
+PrintsEnd IsWant (Err error) old new =
     (IsWant error → AppendsStart old new (refusal_line no_memory)) × ((IsWant error → ⊥) → new ≡ old)

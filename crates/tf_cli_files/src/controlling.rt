@@ -5,15 +5,15 @@ ghost use Rattle.std.specs.Prelude.{◌≡◌, IfOk};
 use crate::log_file::LineFile;
 use crate::log_sink::LogSink;
 use crate::stop_file::StopFile;
-use crate::stopping::{Countdown, Stopping};
+use crate::stopping::{ApplyEvents, Countdown, Stopping};
 use std::alloc::{AllocError, Global};
 use std::sync::Arc;
 use tf_provider_log::{Logged, OpenLog};
 use tf_provider_protocol::Provider;
 use tf_walk_action::Stop;
 
-/// The shared state of the providers of an apply: the log of their calls, and the flag that stops the walk, after a given number
-/// of calls or once a file exists.
+/// The shared state of the providers of an apply: the log of their calls, where they are reported, and the flag that stops the walk,
+/// after a given number of calls or once a file exists.
 #[derive(Drop)]
 pub struct CallControl<F: LineFile> {
     log: Arc<OpenLog<LogSink<F>>>,
@@ -21,22 +21,23 @@ pub struct CallControl<F: LineFile> {
 }
 
 impl<F: LineFile> CallControl<F> {
-    /// Returns the control before any call, with its log in the given file. The call with the number `last` sets the
-    /// flag before it returns. With 0 the flag is set from the start. Once the file `stop_file` exists, the next call that
-    /// returns sets it; if it exists already, the flag is set from the start.
+    /// Returns the control before any call, with its log in the given file, and the events that report calls. The call with the
+    /// number `last` sets the flag before it returns. With 0 the flag is set from the start. Once the file `stop_file` exists,
+    /// the next call that returns sets it; if it exists already, the flag is set from the start.
     pub fn new(
         alloc: Global,
         file: Arc<F>,
         last: Option<usize>,
         stop_file: Option<StopFile>,
+        events: ApplyEvents,
     ) -> Result<CallControl<F>, AllocError> {
         Ok(CallControl {
             log: Arc::new(alloc, OpenLog::new(LogSink::new(file)))?,
-            countdown: Arc::new(alloc, Countdown::new(last, stop_file))?,
+            countdown: Arc::new(alloc, Countdown::new(last, stop_file, events))?,
         })
     }
 
-    /// Wraps a provider so that its calls are counted and logged. Its meaning stays the same.
+    /// Wraps a provider so that its calls are counted, reported and logged. Its meaning stays the same.
     pub fn wrap<P: Provider>(
         &self,
         alloc: Global,

@@ -10,7 +10,7 @@ use std::io::Write;
 use tf_cli_lines::{SaveFault, save};
 
 /// The exit status if the state isn't written.
-pub const UNWRITTEN: u8 = 3;
+pub const EXIT_STATE_NOT_WRITTEN: u8 = 3;
 
 /// Writes the state's text to its file and returns 0. Returns 3 if the file couldn't be opened, which is `None`; if a
 /// write to it fails or takes nothing; or if its `flush` fails, which puts the file in its place. Then it prints on
@@ -27,25 +27,25 @@ pub fn keep<W: Write, O: Write, E: Write>(
     ensures part { TakesStart W.contents file.entry file.exit text.now }
 {
     match file {
-        Some(file) => keep_in(file, text, out, err),
-        None => tell_unwritten(text, out, err),
+        Some(file) => write_to(file, text, out, err),
+        None => print_unwritten(text, out, err),
     }
 }
 
 /// Writes the state's text to its open file.
-fn keep_in<W: Write, O: Write, E: Write>(file: &mut W, text: &str, out: &mut O, err: &mut E) -> u8
+fn write_to<W: Write, O: Write, E: Write>(file: &mut W, text: &str, out: &mut O, err: &mut E) -> u8
     ensures ends { EndsKept 0 result text.now (O.contents out.old) (O.contents out.new) (E.contents err.old) (E.contents err.new) }
     ensures whole { result ≡ 0 → Appends (W.contents file.old) (W.contents file.new) text.now }
     ensures part { AppendsStart (W.contents file.old) (W.contents file.new) text.now }
 {
-    match put(file, text) {
+    match write_and_flush(file, text) {
         Ok(()) => 0,
-        Err(_) => tell_unwritten(text, out, err),
+        Err(_) => print_unwritten(text, out, err),
     }
 }
 
 /// Writes a text, and flushes the writer, which puts the text in its place.
-fn put<W: Write>(writer: &mut W, text: &str) -> Result<(), SaveFault>
+fn write_and_flush<W: Write>(writer: &mut W, text: &str) -> Result<(), SaveFault>
     ensures whole { OnOk result (Appends (W.contents writer.old) (W.contents writer.new) text.now) }
     ensures part { AppendsStart (W.contents writer.old) (W.contents writer.new) text.now }
 {
@@ -55,12 +55,12 @@ fn put<W: Write>(writer: &mut W, text: &str) -> Result<(), SaveFault>
 }
 
 /// Prints that the state isn't written, prints its text, and returns the status.
-fn tell_unwritten<O: Write, E: Write>(text: &str, out: &mut O, err: &mut E) -> u8
+fn print_unwritten<O: Write, E: Write>(text: &str, out: &mut O, err: &mut E) -> u8
     ensures status { result ≡ 3 }
     ensures output { AppendsStart (O.contents out.old) (O.contents out.new) text.now }
     ensures errors { AppendsStart (E.contents err.old) (E.contents err.new) unwritten_line }
 {
     let _ = save(err, "error: state not written\n");
     let _ = save(out, text);
-    UNWRITTEN
+    EXIT_STATE_NOT_WRITTEN
 }

@@ -3,36 +3,38 @@
 #![tactic(auto)]
 
 mod controlling;
+mod ending;
 mod given;
 mod keeping;
+mod loading;
 mod log_file;
 mod log_sink;
-mod past;
+mod messages;
 mod place;
 mod program;
 mod reading;
 mod replacing;
 mod requested;
-mod seeing;
 mod sources;
 mod stop_file;
 mod stopping;
-mod telling;
+mod unfinished;
 
 pub use controlling::CallControl;
+pub use ending::Ending;
 pub use given::ProgramInput;
-pub use keeping::{UNWRITTEN, keep};
+pub use keeping::{EXIT_STATE_NOT_WRITTEN, keep};
+pub use loading::{Loaded, load, load_locked, read_unfinished_apply};
 pub use log_file::{LineFile, LogFile, Settled, empty};
 pub use log_sink::LogSink;
-pub use past::Past;
+pub use messages::{
+    print_call_in_flight, print_calls_in_flight, print_lost, print_misfit, print_no_log,
+    print_no_memory, print_recovered, print_unrecovered,
+};
 pub use place::Place;
 pub use program::run;
-pub use reading::tell_unread;
-pub use replacing::{InPlace, NotInPlace, keep_state, sync_folder};
-pub use seeing::{Seen, hold, see, see_past};
+pub use reading::print_unread;
+pub use replacing::{InPlace, NotInPlace, sync_folder, write_state};
 pub use stop_file::StopFile;
-pub use stopping::Stopping;
-pub use telling::{
-    tell_calls, tell_in_flight, tell_lost, tell_misfit, tell_no_log, tell_no_memory, tell_past,
-    tell_unrecovered,
-};
+pub use stopping::{ApplyEvents, Stopping};
+pub use unfinished::UnfinishedApply;

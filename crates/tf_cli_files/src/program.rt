@@ -2,7 +2,7 @@
 
 ghost use Rattle.std.specs.IoError.{error_kind};
 ghost use Rattle.std.specs.Prelude.{◌≡◌, ◌⊎◌};
-ghost use Rattle.tf_cli_files.specs.Program.{Ends, IsEarly, TellsEnd};
+ghost use Rattle.tf_cli_files.specs.Program.{Ends, IsEarly, PrintsEnd};
 
 use std::io;
 use std::io::{ErrorKind, Write};
@@ -40,7 +40,7 @@ pub fn run<
 /// Ends a program. Prints out of memory as a refusal.
 fn end<E: Write>(answer: io::Result<ExitCode>, err: &mut E) -> io::Result<ExitCode>
     ensures status { Ends (λ e. error_kind e ≡ ErrorKind.OutOfMemory) answer result }
-    ensures told { TellsEnd (λ e. error_kind e ≡ ErrorKind.OutOfMemory) answer (E.contents err.old) (E.contents err.new) }
+    ensures told { PrintsEnd (λ e. error_kind e ≡ ErrorKind.OutOfMemory) answer (E.contents err.old) (E.contents err.new) }
 {
     match answer {
         Err(error) if error.kind() == ErrorKind::OutOfMemory => {

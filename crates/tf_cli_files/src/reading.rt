@@ -4,8 +4,9 @@ ghost use Rattle.std.specs.Fn.{FnReturnsAt};
 ghost use Rattle.std.specs.IoError.{error_kind};
 ghost use Rattle.std.specs.Prelude.{◌≡◌, IfErr, IfOk, None, Ok, string_bytes};
 ghost use Rattle.tf_cli_lines.specs.Saved.{AppendsStart};
-ghost use Rattle.tf_cli_files.specs.Program.{AreReads, GoesOn, IsFailure, ReadsOptional, TellsUnread, unread_line};
+ghost use Rattle.tf_cli_files.specs.Program.{AreReads, Fails, GoesOn, IsFailure, ReadsOptional, PrintsUnread, unread_line};
 
+use crate::ending::Ending;
 use crate::given::ProgramInput;
 use crate::sources::{merged, named, read_sources};
 use std::alloc::Global;
@@ -38,9 +39,9 @@ pub fn read_files<F: Fn(&str) -> io::Result<Vec<u8>>, E: Write>(
     options: Options,
     read: &F,
     err: &mut E,
-) -> Result<ProgramInput, ExitCode>
+) -> Result<ProgramInput, Ending>
     requires { F.IsAlwaysCallable read.now }
-    ensures status { IfErr result IsFailure }
+    ensures status { IfErr result Fails }
     ensures options { IfOk result (λ given. given.options ≡ options) }
     ensures files { IfOk result (λ given. AreReads (FnReturnsAt F.Fn read.now) (string_bytes options.config) options.variables.items given.config given.vars) }
     ensures stateless { IfOk result (λ given. given.state ≡ None) }
@@ -65,12 +66,12 @@ pub(crate) fn read_file<F: Fn(&str) -> io::Result<Vec<u8>>, E: Write>(
     file: &str,
     read: &F,
     err: &mut E,
-) -> Result<Vec<u8>, ExitCode>
+) -> Result<Vec<u8>, Ending>
     requires { F.IsAlwaysCallable read.now }
-    ensures status { IfErr result IsFailure }
+    ensures status { IfErr result Fails }
     ensures read { IfOk result (λ bytes. FnReturnsAt F.Fn read.now file.now (Ok bytes)) }
 {
-    or_told(read(file), file, err)
+    read_or_print(read(file), file, err)
 }
 
 /// Reads a file that may be absent, such as a state's. If it exists and can't be read, prints that and returns the
@@ -79,31 +80,35 @@ pub fn read_optional<F: Fn(&str) -> io::Result<Vec<u8>>, E: Write>(
     file: &str,
     read: &F,
     err: &mut E,
-) -> Result<Option<Vec<u8>>, ExitCode>
+) -> Result<Option<Vec<u8>>, Ending>
     requires { F.IsAlwaysCallable read.now }
-    ensures status { IfErr result IsFailure }
+    ensures status { IfErr result Fails }
     ensures read { IfOk result (λ state. ReadsOptional (λ e. error_kind e ≡ ErrorKind.NotFound) (FnReturnsAt F.Fn read.now) file.now state) }
 {
     match read(file) {
         Ok(bytes) => Ok(Some(bytes)),
         Err(error) if error.kind() == ErrorKind::NotFound => Ok(None),
-        Err(_) => Err(tell_unread(file, err)),
+        Err(error) => Err(Ending::by(print_unread(file, err), error)),
     }
 }
 
 /// Returns what was read of a file. If it can't be read, prints that and returns the program's exit status.
-fn or_told<T: Drop, E: Write>(read: io::Result<T>, file: &str, err: &mut E) -> Result<T, ExitCode>
+fn read_or_print<T: Drop, E: Write>(
+    read: io::Result<T>,
+    file: &str,
+    err: &mut E,
+) -> Result<T, Ending>
     ensures read { GoesOn read result }
-    ensures told { TellsUnread read file.now (E.contents err.old) (E.contents err.new) }
+    ensures told { PrintsUnread read file.now (E.contents err.old) (E.contents err.new) }
 {
     match read {
         Ok(bytes) => Ok(bytes),
-        Err(_) => Err(tell_unread(file, err)),
+        Err(error) => Err(Ending::by(print_unread(file, err), error)),
     }
 }
 
 /// Prints that a file can't be read, and returns the program's exit status.
-pub fn tell_unread<E: Write>(file: &str, err: &mut E) -> ExitCode
+pub fn print_unread<E: Write>(file: &str, err: &mut E) -> ExitCode
     ensures status { IsFailure result }
     ensures told { AppendsStart (E.contents err.old) (E.contents err.new) (unread_line file.now) }
 {

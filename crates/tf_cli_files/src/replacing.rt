@@ -132,7 +132,7 @@ fn keep_backup<R: Files>(rt: &R, place: &Place) -> io::Result<()> {
 }
 
 /// The evidence that the state file has a text: the text was written to a new file, synced, and renamed into place.
-/// Only [`keep_state`] makes one.
+/// Only [`write_state`] makes one.
 #[derive(Debug, Drop)]
 pub struct InPlace {
     text: String,
@@ -160,7 +160,7 @@ pub struct NotInPlace;
 /// If any of that fails, the state file stays as it was, the new file is removed, standard error reports that the state
 /// isn't written, and standard output gets its text. (If only the sync of the folder fails, the state file is the new
 /// one, and the rest is the same.)
-pub fn keep_state<R: Files, O: Write, E: Write>(
+pub fn write_state<R: Files, O: Write, E: Write>(
     rt: &R,
     place: &Place,
     text: String,

@@ -2,12 +2,13 @@
 
 ghost use Rattle.std.specs.Fn.{FnReturnsAt};
 ghost use Rattle.std.specs.Prelude.{◌≡◌, ◌∷◌, ◌++◌, [], IfErr, IfOk, Ok, OnOk, option_map};
-ghost use Rattle.tf_cli_files.specs.Program.{IsFailure};
+ghost use Rattle.tf_cli_files.specs.Program.{Fails, IsFailure};
 ghost use Rattle.tf_cli_files.specs.Sources.{EachRead, ReadsSource};
 ghost use Rattle.tf_cli_variables.specs.Choice.{AreVariables};
 
+use crate::ending::Ending;
+use crate::messages::{print_assignment, print_no_memory};
 use crate::reading::read_file;
-use crate::telling::{tell_assignment, tell_no_memory};
 use std::alloc::{AllocError, Global};
 use std::io;
 use std::io::Write;
@@ -24,16 +25,16 @@ pub(crate) fn read_sources<F: Fn(&str) -> io::Result<Vec<u8>>, E: Write>(
     names: &[VariableSource],
     read: &F,
     err: &mut E,
-) -> Result<Vec<Source>, ExitCode>
+) -> Result<Vec<Source>, Ending>
     requires { F.IsAlwaysCallable read.now }
-    ensures status { IfErr result IsFailure }
+    ensures status { IfErr result Fails }
     ensures read { IfOk result (λ sources. EachRead (FnReturnsAt F.Fn read.now) names.now sources.items) }
 {
     let mut sources = Vec::new(alloc);
     for name in names {
         let source = read_source(name, read, err)?;
         if add(&mut sources, source).is_err() {
-            return Err(tell_no_memory(err));
+            return Err(Ending::from(print_no_memory(err)));
         }
     }
     Ok(sources)
@@ -52,9 +53,9 @@ fn read_source<F: Fn(&str) -> io::Result<Vec<u8>>, E: Write>(
     name: &VariableSource,
     read: &F,
     err: &mut E,
-) -> Result<Source, ExitCode>
+) -> Result<Source, Ending>
     requires { F.IsAlwaysCallable read.now }
-    ensures status { IfErr result IsFailure }
+    ensures status { IfErr result Fails }
     ensures read { IfOk result (ReadsSource (FnReturnsAt F.Fn read.now) name.now) }
 {
     match name {
@@ -64,7 +65,7 @@ fn read_source<F: Fn(&str) -> io::Result<Vec<u8>>, E: Write>(
         }
         VariableSource::Assignment(text) => match text.clone() {
             Ok(text) => Ok(Source::Assignment(text)),
-            Err(_) => Err(tell_no_memory(err)),
+            Err(_) => Err(Ending::from(print_no_memory(err))),
         },
     }
 }
@@ -84,11 +85,11 @@ pub(crate) fn merged<E: Write>(
         Ok(variables) => Ok(variables),
         Err(MergeFault::BadSource(position, cause)) => match names.get(position) {
             Some(VariableSource::Assignment(text)) => {
-                Err(tell_assignment(text.as_str(), cause, err))
+                Err(print_assignment(text.as_str(), cause, err))
             }
-            _ => Err(tell_no_memory(err)),
+            _ => Err(print_no_memory(err)),
         },
-        Err(_) => Err(tell_no_memory(err)),
+        Err(_) => Err(print_no_memory(err)),
     }
 }
 
@@ -106,7 +107,7 @@ pub(crate) fn named<E: Write>(
     }
     match String::from_str(alloc, name_at(names, variables.position)) {
         Ok(name) => Ok(Some(name)),
-        Err(_) => Err(tell_no_memory(err)),
+        Err(_) => Err(print_no_memory(err)),
     }
 }
 

@@ -7,13 +7,13 @@ use Rattle.tf_provider_protocol.specs.Meaning.{Meaning}
 use Rattle.tf_cli_program.specs.Recovery.{ContinuesFrom, IsRecoveryStatus, IsReplaced, state_given}
 use Rattle.tf_cli_files.specs.declared.given.ProgramInput.{ProgramInput}
 use Rattle.tf_cli_program.specs.declared.recovery_status.RecoveryStatus.TheVariants.{Before, After}
-use Rattle.tf_cli_files.specs.declared.past.Past.{Past}
+use Rattle.tf_cli_files.specs.declared.unfinished.UnfinishedApply.{UnfinishedApply}
 
-module _ (ms : List Meaning) (past : Past) where
-  pub after_continues : (given : ProgramInput) → IsRecoveryStatus ms past given After → ContinuesFrom ms past given given
+module _ (ms : List Meaning) (unfinished : UnfinishedApply) where
+  pub after_continues : (given : ProgramInput) → IsRecoveryStatus ms unfinished given After → ContinuesFrom ms unfinished given given
   after_continues given h = record { recovered = h.recovered; is_recovered = h.is_recovered; options = refl; config = refl; vars = refl; state = h.compared.1 }
 
-  pub before_continues : (old new : ProgramInput) (text : Option (String Global)) → IsRecoveryStatus ms past old (Before text) → IsReplaced (option_map string_bytes text) old new → ContinuesFrom ms past old new
+  pub before_continues : (old new : ProgramInput) (text : Option (String Global)) → IsRecoveryStatus ms unfinished old (Before text) → IsReplaced (option_map string_bytes text) old new → ContinuesFrom ms unfinished old new
   before_continues old new text h put = record {
     recovered = h.recovered;
     is_recovered = h.is_recovered;
@@ -24,7 +24,7 @@ module _ (ms : List Meaning) (past : Past) where
   }
 
   -- without a text the state stays
-  pub unchanged_continues : (given : ProgramInput) → IsRecoveryStatus ms past given (Before None) → ContinuesFrom ms past given given
+  pub unchanged_continues : (given : ProgramInput) → IsRecoveryStatus ms unfinished given (Before None) → ContinuesFrom ms unfinished given given
   unchanged_continues given h = before_continues given given None h (record { options = refl; config = refl; vars = refl; state = refl })
 
 -- what holds anyway holds if a result is Ok

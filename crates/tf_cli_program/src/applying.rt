@@ -26,7 +26,8 @@ use tf_cli::{
     text_of,
 };
 use tf_cli_files::{
-    LogFile, NotInPlace, Place, ProgramInput, Settled, UNWRITTEN, keep_state, tell_lost,
+    EXIT_STATE_NOT_WRITTEN, LogFile, NotInPlace, Place, ProgramInput, Settled, print_lost,
+    write_state,
 };
 use tf_cli_options::Options;
 use tf_plan_data::Planned;
@@ -235,7 +236,7 @@ where
 {
     let (status, settled) = keep_result(rt, place, log, answer, printed, out, err);
     if log.is_lost() {
-        tell_lost(place.log.as_str(), err);
+        print_lost(place.log.as_str(), err);
     }
     if let Some(why) = settled {
         let _ = empty_log(file, &why, place, err);
@@ -261,11 +262,11 @@ fn keep_result<R: Files + AllocGlobal, S: Sink, O: Write, E: Write>(
     let _ = log.sync();
     let status = show_rest(printed, &answer, out, err);
     match state_to_write(answer) {
-        Some(text) => match keep_state(rt, place, text, out, err) {
+        Some(text) => match write_state(rt, place, text, out, err) {
             Ok(in_place) => (status, Some(Settled::Replaced(in_place))),
-            Err(NotInPlace) => (UNWRITTEN, None),
+            Err(NotInPlace) => (EXIT_STATE_NOT_WRITTEN, None),
         },
-        None if status == UNWRITTEN => (status, None),
+        None if status == EXIT_STATE_NOT_WRITTEN => (status, None),
         None => (status, Some(Settled::UpToDate)),
     }
 }

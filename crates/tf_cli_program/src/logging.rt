@@ -14,8 +14,8 @@ use std::io::Write;
 use std::process::ExitCode;
 use std::rt::Files;
 use tf_cli_files::{
-    LogFile, NotInPlace, Past, Place, ProgramInput, Settled, UNWRITTEN, empty, keep_state,
-    sync_folder, tell_no_log, tell_no_memory,
+    EXIT_STATE_NOT_WRITTEN, LogFile, NotInPlace, Place, ProgramInput, Settled, UnfinishedApply,
+    empty, print_no_log, print_no_memory, sync_folder, write_state,
 };
 use tf_cli_options::Options;
 use tf_provider::Provider;
@@ -40,20 +40,20 @@ pub fn finish_recovery<R: Files + AllocGlobal, O: Write, E: Write>(
     place: &Place,
     file: &R::File,
     given: &mut ProgramInput,
-    past: &Past,
+    unfinished: &UnfinishedApply,
     replayed: &[Box<dyn Provider + Sync>],
     out: &mut O,
     err: &mut E,
 ) -> Result<(), ExitCode>
 where
     R::File: LogFile,
-    ensures from { IfOk result (λ _. ContinuesFrom (map meaning replayed.now) past.now given.old given.new) }
-    ensures into { IfOk result (λ _. IsInspected past.now given.old.options) }
+    ensures from { IfOk result (λ _. ContinuesFrom (map meaning replayed.now) unfinished.now given.old given.new) }
+    ensures into { IfOk result (λ _. IsInspected unfinished.now given.old.options) }
     ensures status { IfErr result (λ status. 1 ≤ exit_status status) }
-    ensures asks { IfErr result (λ status. exit_status status ≡ 2 → IsInspected past.now given.old.options → ⊥) }
+    ensures asks { IfErr result (λ status. exit_status status ≡ 2 → IsInspected unfinished.now given.old.options → ⊥) }
 {
-    let status = recovery_status(rt.alloc(), place, given, past, replayed, err)?;
-    if !is_inspected(past, &given.options) {
+    let status = recovery_status(rt.alloc(), place, given, unfinished, replayed, err)?;
+    if !is_inspected(unfinished, &given.options) {
         return Err(ask_for_results(place, err));
     }
     match status {
@@ -68,10 +68,10 @@ where
 }
 
 /// Returns whether no call is in flight, or the options say that the calls in flight weren't made.
-pub fn is_inspected(past: &Past, options: &Options) -> bool
-    ensures { IsTrue result ↔ IsInspected past.now options.now }
+pub fn is_inspected(unfinished: &UnfinishedApply, options: &Options) -> bool
+    ensures { IsTrue result ↔ IsInspected unfinished.now options.now }
 {
-    past.in_flight.is_empty() || is_retried(options)
+    unfinished.in_flight.is_empty() || is_retried(options)
 }
 
 /// Returns whether the options say that the calls in flight weren't made.
@@ -105,14 +105,14 @@ pub fn preview_recovery<E: Write>(
     alloc: Global,
     place: &Place,
     given: &mut ProgramInput,
-    past: &Past,
+    unfinished: &UnfinishedApply,
     replayed: &[Box<dyn Provider + Sync>],
     err: &mut E,
 ) -> Result<(), ExitCode>
-    ensures from { IfOk result (λ _. ContinuesFrom (map meaning replayed.now) past.now given.old given.new) }
+    ensures from { IfOk result (λ _. ContinuesFrom (map meaning replayed.now) unfinished.now given.old given.new) }
     ensures status { IfErr result IsFailure }
 {
-    match recovery_status(alloc, place, given, past, replayed, err)? {
+    match recovery_status(alloc, place, given, unfinished, replayed, err)? {
         RecoveryStatus::After | RecoveryStatus::Before(None) => {}
         RecoveryStatus::Before(Some(state)) => given.state = Some(state.into_bytes()),
     }
@@ -137,11 +137,11 @@ where
         return Ok(Settled::UpToDate);
     };
     if file.sync_data().is_err() {
-        return Err(tell_no_log(place.log.as_str(), err));
+        return Err(print_no_log(place.log.as_str(), err));
     }
-    match keep_state(rt, place, state, out, err) {
+    match write_state(rt, place, state, out, err) {
         Ok(in_place) => Ok(Settled::Replaced(in_place)),
-        Err(NotInPlace) => Err(ExitCode::from(UNWRITTEN)),
+        Err(NotInPlace) => Err(ExitCode::from(EXIT_STATE_NOT_WRITTEN)),
     }
 }
 
@@ -166,7 +166,7 @@ pub fn empty_log<F: LogFile, E: Write>(
 {
     match empty(file, why) {
         Ok(()) => Ok(()),
-        Err(_) => Err(tell_no_log(place.log.as_str(), err)),
+        Err(_) => Err(print_no_log(place.log.as_str(), err)),
     }
 }
 
@@ -184,16 +184,16 @@ pub fn start<R: Files + AllocGlobal, S: Sink, E: Write>(
     let header = match header_of(rt.alloc(), given) {
         Ok(Some(header)) => header,
         Ok(None) => return Ok(()),
-        Err(AllocError) => return Err(tell_no_memory(err)),
+        Err(AllocError) => return Err(print_no_memory(err)),
     };
     match log.start(rt.alloc(), &header) {
         Ok(()) => {}
-        Err(NotStarted::OutOfMemory) => return Err(tell_no_memory(err)),
-        Err(NotStarted::NotWritten) => return Err(tell_no_log(place.log.as_str(), err)),
+        Err(NotStarted::OutOfMemory) => return Err(print_no_memory(err)),
+        Err(NotStarted::NotWritten) => return Err(print_no_log(place.log.as_str(), err)),
     }
     match sync_folder(rt, place) {
         Ok(()) => Ok(()),
-        Err(_) => Err(tell_no_log(place.log.as_str(), err)),
+        Err(_) => Err(print_no_log(place.log.as_str(), err)),
     }
 }
 

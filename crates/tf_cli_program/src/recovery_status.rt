@@ -11,7 +11,8 @@ use std::io::Write;
 use std::process::ExitCode;
 use tf_cli::Refused;
 use tf_cli_files::{
-    Past, Place, ProgramInput, tell_calls, tell_misfit, tell_no_memory, tell_past, tell_unrecovered,
+    Place, ProgramInput, UnfinishedApply, print_calls_in_flight, print_misfit, print_no_memory,
+    print_recovered, print_unrecovered,
 };
 use tf_provider::Provider;
 
@@ -35,26 +36,26 @@ pub fn recovery_status<E: Write>(
     alloc: Global,
     place: &Place,
     given: &ProgramInput,
-    past: &Past,
+    unfinished: &UnfinishedApply,
     replayed: &[Box<dyn Provider + Sync>],
     err: &mut E,
 ) -> Result<RecoveryStatus, ExitCode>
-    ensures looked { IfOk result (IsRecoveryStatus (map meaning replayed.now) past.now given.now) }
+    ensures looked { IfOk result (IsRecoveryStatus (map meaning replayed.now) unfinished.now given.now) }
     ensures status { IfErr result IsFailure }
 {
-    let state = match recover(alloc, &past.header, past.answers, replayed) {
+    let state = match recover(alloc, &unfinished.header, unfinished.answers, replayed) {
         Ok(recovered) => recovered.state,
         Err(fault) => return Err(report_fault(place, &fault, err)),
     };
-    if is_state(given, &past.header.state) {
-        tell_past(alloc, past, err);
+    if is_state(given, &unfinished.header.state) {
+        print_recovered(alloc, unfinished, err);
         return Ok(RecoveryStatus::Before(state));
     }
     if state.is_some() && is_state(given, &state) {
-        tell_calls(alloc, past, err);
+        print_calls_in_flight(alloc, unfinished, err);
         return Ok(RecoveryStatus::After);
     }
-    Err(tell_misfit(place, err))
+    Err(print_misfit(place, err))
 }
 
 /// Returns whether the given state has this text, or there is neither.
@@ -73,8 +74,8 @@ fn report_fault<E: Write>(place: &Place, fault: &Unrecovered, err: &mut E) -> Ex
     ensures { IsFailure result }
 {
     match fault {
-        Unrecovered::Refused(Refused::NoMemory) | Unrecovered::OutOfMemory => tell_no_memory(err),
-        Unrecovered::Refused(_) => tell_misfit(place, err),
-        Unrecovered::NotAll => tell_unrecovered(place.log.as_str(), err),
+        Unrecovered::Refused(Refused::NoMemory) | Unrecovered::OutOfMemory => print_no_memory(err),
+        Unrecovered::Refused(_) => print_misfit(place, err),
+        Unrecovered::NotAll => print_unrecovered(place.log.as_str(), err),
     }
 }

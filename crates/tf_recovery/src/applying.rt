@@ -2,14 +2,14 @@
 
 use crate::approving::AtTerminal;
 use crate::carrying::check_pipes;
-use crate::explaining::{explains, sources, warn};
+use crate::explaining::{end_early, explains, sources, warn};
 use crate::failures::failure_lines;
 use crate::outside::apply_outside;
 use crate::planning::check_forms;
 use crate::recovering::recover;
 use crate::remotes::read_types;
 use crate::repeating::repeat_idempotent;
-use crate::reporting::{begin_events, end_events, writer};
+use crate::reporting::{begin_events, call_events, end_events, writer};
 use crate::settling::settle;
 use std::alloc::AllocError;
 use std::fs::File;
@@ -19,14 +19,17 @@ use std::sync::{Arc, Wait};
 use std::thread::Threads;
 use std::{env, io};
 use tf_cli_events::{Diagnosed, Events};
-use tf_cli_files::{CallControl, LogSink, Place, ProgramInput, Seen, StopFile, Stopping, hold};
+use tf_cli_files::{
+    CallControl, Ending, Loaded, LogSink, Place, ProgramInput, StopFile, Stopping, UnfinishedApply,
+    load_locked,
+};
 use tf_cli_lines::save;
 use tf_cli_options::Options;
 use tf_cli_program::carry_out_logged;
 use tf_explain::Explained;
 use tf_provider::Provider;
 use tf_provider_local::LocalFile;
-use tf_provider_log::Logged;
+use tf_provider_log::{LogEntry, Logged};
 use tf_provider_progress::{Progress, StatusLine};
 use tf_provider_remote::RemoteTypes;
 use tf_provider_sim::Sim;
@@ -65,60 +68,122 @@ fn apply_given<T: Threads + Wait + Sync, O: Write, E: Write>(
     out: &mut O,
     err: &mut E,
 ) -> io::Result<ExitCode> {
+    let is_explained = explains(rt, &options);
+    match prepared(rt, options, out, err)? {
+        Ok(prepared) => apply_prepared(rt, threads, prepared, out, err),
+        Err(ending) => Ok(end_early(ending, is_explained, err)),
+    }
+}
+
+/// What an apply begins with, after a recovery.
+#[derive(Drop)]
+struct Prepared {
+    /// The types of the providers outside the program.
+    types: RemoteTypes,
+    /// The program's input, with the recovered state.
+    given: ProgramInput,
+    /// The files of the state.
+    place: Place,
+    /// The log, which is locked.
+    file: File,
+}
+
+/// Reads the files, locks the log and recovers an unfinished apply, if there is one. If the program can't continue, prints why and
+/// returns its end.
+fn prepared<O: Write, E: Write>(
+    rt: &HostRuntime,
+    options: Options,
+    out: &mut O,
+    err: &mut E,
+) -> Result<Result<Prepared, Ending>, AllocError> {
     let types = match outside_types(rt, &options, err) {
         Ok(types) => types,
-        Err(status) => return Ok(status),
+        Err(ending) => return Ok(Err(ending)),
     };
-    let (seen, file) = match hold(rt, options, err) {
+    let (loaded, file) = match load_locked(rt, options, err) {
         Ok(held) => held,
-        Err(status) => return Ok(status),
+        Err(ending) => return Ok(Err(ending)),
     };
-    let Seen {
+    let Loaded {
         mut given,
         place,
-        past,
-    } = seen;
-    let past = repeat_idempotent(rt.alloc(), &types, past, err)?;
-    let past = match settle(rt, &types, &place, &file, &given, past, err) {
-        Ok(past) => past,
-        Err(status) => return Ok(status),
+        unfinished,
+    } = loaded;
+    match recover_given(rt, &types, &place, &file, &mut given, unfinished, out, err)? {
+        Ok(()) => Ok(Ok(Prepared {
+            types,
+            given,
+            place,
+            file,
+        })),
+        Err(ending) => Ok(Err(ending)),
+    }
+}
+
+/// Recovers an unfinished apply, if there is one, and then prints its failures. If the program can't continue, prints why and returns
+/// its end.
+fn recover_given<O: Write, E: Write>(
+    rt: &HostRuntime,
+    types: &RemoteTypes,
+    place: &Place,
+    file: &File,
+    given: &mut ProgramInput,
+    unfinished: Option<(UnfinishedApply, Vec<LogEntry>)>,
+    out: &mut O,
+    err: &mut E,
+) -> Result<Result<(), Ending>, AllocError> {
+    let unfinished = repeat_idempotent(types, unfinished, err);
+    let unfinished = match settle(rt, types, place, file, given, unfinished, err) {
+        Ok(unfinished) => unfinished,
+        Err(ending) => return Ok(Err(ending)),
     };
-    let failures = failure_lines(rt.alloc(), &given, &past)?;
-    let recovered = recover(rt, &types, &place, &file, &mut given, past, out, err)?;
-    if let Err(status) = recovered {
-        return Ok(status);
+    let failures = failure_lines(rt.alloc(), given, &unfinished)?;
+    if let Err(status) = recover(rt, types, place, file, given, unfinished, out, err)? {
+        return Ok(Err(Ending::from(status)));
     }
     let _ = save(err, failures.as_str());
-    if in_session(&given.options) {
+    Ok(Ok(()))
+}
+
+/// Applies what was given, after a recovery.
+fn apply_prepared<T: Threads + Wait + Sync, O: Write, E: Write>(
+    rt: &HostRuntime,
+    threads: &T,
+    prepared: Prepared,
+    out: &mut O,
+    err: &mut E,
+) -> io::Result<ExitCode> {
+    let Prepared {
+        types,
+        given,
+        place,
+        file,
+    } = prepared;
+    if !given.options.providers.is_empty() {
         return apply_outside(rt, threads, types, &place, file, &given, out, err);
     }
     let file = Arc::new(rt.alloc(), file)?;
     apply_by(rt, threads, &place, &file, &given, out, err)
 }
 
-/// Returns whether one thread makes the calls, one after another or by pipes: with providers outside the program, and with events,
-/// unless the apply stops after a number of calls.
-fn in_session(options: &Options) -> bool {
-    !options.providers.is_empty() || (options.json && options.stop_after.is_none())
-}
-
 /// Reads the types of the providers outside the program, and checks that their pipes are there. If they aren't, or if the options don't
-/// go with such providers, prints that and returns the program's status.
+/// go with such providers, prints that and returns the program's end.
 fn outside_types<E: Write>(
     rt: &HostRuntime,
     options: &Options,
     err: &mut E,
-) -> Result<RemoteTypes, ExitCode> {
+) -> Result<RemoteTypes, Ending> {
     if options.stop_after.is_some() && !options.providers.is_empty() {
         let _ = writeln!(err, "error: --stop-after cannot be used with --provider");
-        return Err(ExitCode::FAILURE);
+        return Err(Ending::from(ExitCode::FAILURE));
     }
     let types = read_types(rt, &options.providers, err)?;
     check_pipes(rt, &options.providers, err)?;
     Ok(types)
 }
 
-/// Applies with `sim` and `local_file`, whose calls are logged, counted for `--stop-after`, and printed if that is asked for.
+/// Applies with `sim` and `local_file`, whose calls are logged, counted for `--stop-after`, and printed, as text or as events, if that
+/// is asked for.
 fn apply_by<T: Threads + Wait + Sync, O: Write, E: Write>(
     rt: &HostRuntime,
     threads: &T,
@@ -131,7 +196,8 @@ fn apply_by<T: Threads + Wait + Sync, O: Write, E: Write>(
     let alloc = rt.alloc();
     let stop_file = stop_file(rt, given)?;
     let stop_after = given.options.stop_after;
-    let control = CallControl::new(alloc, Arc::try_clone(file)?, stop_after, stop_file)?;
+    let events = call_events(rt, given.options.json);
+    let control = CallControl::new(alloc, Arc::try_clone(file)?, stop_after, stop_file, events)?;
     let WatchedProviders { sim, files } = watched_providers(rt, place, given, &control)?;
     let mut providers: Vec<Box<dyn Provider + Sync>> = Vec::new(alloc);
     providers.push(Box::new(alloc, sim)?)?;
@@ -192,7 +258,7 @@ fn carry_out_by<T: Threads + Wait + Sync, O: Write, E: Write>(
 ) -> ExitCode {
     let files = sources(given, place, providers);
     warn(rt, given, files, err);
-    let mut err = Explained::new(rt.alloc(), err, explains(rt, given), files);
+    let mut err = Explained::new(rt.alloc(), err, explains(rt, &given.options), files);
     carry_out_logged(
         rt,
         threads,

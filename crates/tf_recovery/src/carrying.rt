@@ -15,7 +15,7 @@ use std::io::Write;
 use std::process::ExitCode;
 use std::sync::Wait;
 use tf_cli::{Applied, Refused, SaveFault, show_rest, state_to_write};
-use tf_cli_files::{Place, ProgramInput, tell_in_flight};
+use tf_cli_files::{Place, ProgramInput, print_call_in_flight};
 use tf_cli_program::{ask_for_results, end_apply};
 use tf_plan_data::Planned;
 use tf_provider::Provider;
@@ -94,14 +94,14 @@ pub(crate) fn finish<O: Write, E: Write>(
 ) -> ExitCode {
     let _ = log.sync();
     if session.flights.is_empty() || log.is_lost() {
-        tell_flights(rt, session, err);
+        print_flights(rt, session, err);
         return end_apply(rt, place, file, log, answer, printed, out, err);
     }
     let _ = show_rest(printed, &answer, out, err);
     drop(state_to_write(answer));
-    tell_flights(rt, session, err);
+    print_flights(rt, session, err);
     if are_repeated(session) {
-        return tell_repeated(place, err);
+        return print_repeated(place, err);
     }
     ask_for_results(place, err)
 }
@@ -120,7 +120,7 @@ fn are_repeated(session: &Session) -> bool {
 }
 
 /// Prints that the next apply makes the requests in flight again. Returns the program's status, 2.
-fn tell_repeated<E: Write>(place: &Place, err: &mut E) -> ExitCode {
+fn print_repeated<E: Write>(place: &Place, err: &mut E) -> ExitCode {
     let _ = writeln!(
         err,
         "error: {} has calls whose results are not known. Their types are idempotent, so run apply again",
@@ -130,9 +130,9 @@ fn tell_repeated<E: Write>(place: &Place, err: &mut E) -> ExitCode {
 }
 
 /// Prints which requests are in flight.
-fn tell_flights<E: Write>(rt: &HostRuntime, session: &Session, err: &mut E) {
+fn print_flights<E: Write>(rt: &HostRuntime, session: &Session, err: &mut E) {
     for flight in session.flights.list() {
-        tell_in_flight(rt.alloc(), &flight.request, err);
+        print_call_in_flight(rt.alloc(), &flight.request, err);
     }
 }
 
@@ -146,7 +146,7 @@ pub(crate) fn open_pipes<E: Write>(
     for folder in folders {
         match Pipe::open(rt, folder.as_str()) {
             Ok(pipe) => pipes.push(pipe)?,
-            Err(_) => return Ok(Err(tell_no_pipes(folder.as_str(), err))),
+            Err(_) => return Ok(Err(print_no_pipes(folder.as_str(), err))),
         }
     }
     Ok(Ok(pipes))
@@ -161,14 +161,14 @@ pub(crate) fn check_pipes<E: Write>(
     for folder in folders {
         match Pipe::is_in(rt, folder.as_str()) {
             Ok(true) => {}
-            _ => return Err(tell_no_pipes(folder.as_str(), err)),
+            _ => return Err(print_no_pipes(folder.as_str(), err)),
         }
     }
     Ok(())
 }
 
 /// Prints that a folder doesn't have the two pipes of a provider.
-fn tell_no_pipes<E: Write>(folder: &str, err: &mut E) -> ExitCode {
+fn print_no_pipes<E: Write>(folder: &str, err: &mut E) -> ExitCode {
     let _ = writeln!(err, "error: {folder}: no pipes named requests and replies");
     ExitCode::FAILURE
 }

@@ -1,13 +1,36 @@
 //! Explained errors.
 
+use std::io;
 use std::io::{IsTerminal, Write};
-use tf_cli_files::{Place, ProgramInput};
+use std::process::ExitCode;
+use tf_cli_files::{Ending, Place, ProgramInput, print_unread};
+use tf_cli_options::Options;
 use tf_explain::{SourceFile, Sources, warnings};
 use tf_provider::Provider;
 
 /// Returns whether errors are explained: if that is asked for, or if standard error is a terminal.
-pub(crate) fn explains(rt: &HostRuntime, given: &ProgramInput) -> bool {
-    given.options.explain || rt.stderr().is_terminal()
+pub(crate) fn explains(rt: &HostRuntime, options: &Options) -> bool {
+    options.explain || rt.stderr().is_terminal()
+}
+
+/// Returns the status of a program that ends before its work. If errors are explained, prints the error of the system below the
+/// program's.
+pub(crate) fn end_early<E: Write>(ending: Ending, explains: bool, err: &mut E) -> ExitCode {
+    let Ending { status, cause } = ending;
+    if let Some(cause) = cause
+        && explains
+    {
+        let _ = writeln!(err, "  {cause}");
+    }
+    status
+}
+
+/// Prints that a file can't be read, and returns the program's end, with the error of the system.
+pub(crate) fn unread<E: Write>(name: &str, error: io::Error, err: &mut E) -> Ending {
+    Ending {
+        status: print_unread(name, err),
+        cause: Some(error),
+    }
 }
 
 /// Returns the files that a program read, with their names, and its providers.
@@ -34,7 +57,7 @@ pub(crate) fn warn<E: Write>(
     files: Sources<'_>,
     err: &mut E,
 ) {
-    if explains(rt, given) {
+    if explains(rt, &given.options) {
         if let Ok(text) = warnings(rt.alloc(), rt, files) {
             let _ = err.write_all(text.as_bytes());
         }

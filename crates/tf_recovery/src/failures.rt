@@ -1,7 +1,7 @@
 //! The failures of an unfinished apply, which it didn't report.
 
 use std::alloc::{AllocError, Global};
-use tf_cli_files::{Past, ProgramInput};
+use tf_cli_files::{ProgramInput, UnfinishedApply};
 use tf_cli_lines::verb_text;
 use tf_cli_program::is_state;
 use tf_provider_log::LogEntry;
@@ -13,10 +13,10 @@ use tf_provider_protocol::{Reply, Request};
 pub(crate) fn failure_lines(
     alloc: Global,
     given: &ProgramInput,
-    past: &Option<(Past, Vec<LogEntry>)>,
+    unfinished: &Option<(UnfinishedApply, Vec<LogEntry>)>,
 ) -> Result<String, AllocError> {
     let mut lines = String::new(alloc);
-    let Some((found, entries)) = past else {
+    let Some((found, entries)) = unfinished else {
         return Ok(lines);
     };
     if !is_state(given, &found.header.state) {

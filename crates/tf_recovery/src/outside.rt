@@ -38,7 +38,8 @@ pub(crate) fn apply_outside<T: Wait, O: Write, E: Write>(
 ) -> io::Result<ExitCode> {
     let alloc = rt.alloc();
     let file = Arc::new(alloc, file)?;
-    let control = CallControl::new(alloc, Arc::try_clone(&file)?, None, None)?;
+    let events = call_events(rt, given.options.json);
+    let control = CallControl::new(alloc, Arc::try_clone(&file)?, None, None, events)?;
     let sim = control.wrap(alloc, Sim::new(alloc)?)?;
     let reserved = place.own_files(alloc, &given.options)?;
     let local_file = control.wrap(alloc, LocalFile::with_reserved(alloc, *rt, reserved)?)?;
@@ -49,7 +50,7 @@ pub(crate) fn apply_outside<T: Wait, O: Write, E: Write>(
     let log_file: &File = &file;
     let files = sources(given, place, providers.as_slice());
     warn(rt, given, files, err);
-    let mut err = Explained::new(alloc, err, explains(rt, given), files);
+    let mut err = Explained::new(alloc, err, explains(rt, &given.options), files);
     carry_out_approved(
         rt,
         threads,

@@ -1,13 +1,13 @@
 //! The work of `plan`.
 
 use crate::approving::colours;
-use crate::explaining::{explains, sources, warn};
+use crate::explaining::{end_early, explains, sources, warn};
 use crate::recovering::preview;
 use crate::remotes::read_types;
 use std::io;
 use std::io::Write;
 use std::process::ExitCode;
-use tf_cli_files::{Place, ProgramInput, Seen, see};
+use tf_cli_files::{Loaded, Place, ProgramInput, load};
 use tf_cli_options::Options;
 use tf_cli_program::print_plan;
 use tf_explain::Explained;
@@ -29,20 +29,21 @@ pub fn plan<O: Write, E: Write>(
     if let Err(status) = check_forms(&options, err) {
         return Ok(status);
     }
+    let is_explained = explains(rt, &options);
     let types = match read_types(rt, &options.providers, err) {
         Ok(types) => types,
-        Err(status) => return Ok(status),
+        Err(ending) => return Ok(end_early(ending, is_explained, err)),
     };
-    let seen = match see(rt, options, err) {
-        Ok(seen) => seen,
-        Err(status) => return Ok(status),
+    let loaded = match load(rt, options, err) {
+        Ok(loaded) => loaded,
+        Err(ending) => return Ok(end_early(ending, is_explained, err)),
     };
-    let Seen {
+    let Loaded {
         mut given,
         place,
-        past,
-    } = seen;
-    if let Err(status) = preview(rt, &types, &place, &mut given, past, err)? {
+        unfinished,
+    } = loaded;
+    if let Err(status) = preview(rt, &types, &place, &mut given, unfinished, err)? {
         return Ok(status);
     }
     let alloc = rt.alloc();
@@ -85,7 +86,7 @@ fn print_given<O: Write, E: Write>(
 ) -> ExitCode {
     let files = sources(given, place, providers);
     warn(rt, given, files, err);
-    let mut err = Explained::new(rt.alloc(), err, explains(rt, given), files);
+    let mut err = Explained::new(rt.alloc(), err, explains(rt, &given.options), files);
     let status = print_plan(rt.alloc(), given, colours(rt), providers, out, &mut err);
     ExitCode::from(status)
 }

@@ -11,7 +11,7 @@ use std::alloc::AllocError;
 use std::fs::File;
 use std::io::Write;
 use std::process::ExitCode;
-use tf_cli_files::{Past, Place, ProgramInput};
+use tf_cli_files::{Place, ProgramInput, UnfinishedApply};
 use tf_cli_program::{finish_recovery, preview_recovery};
 use tf_provider::Provider;
 use tf_provider_local::LocalFile;
@@ -31,16 +31,24 @@ pub fn preview<E: Write>(
     types: &RemoteTypes,
     place: &Place,
     given: &mut ProgramInput,
-    past: Option<(Past, Vec<LogEntry>)>,
+    unfinished: Option<(UnfinishedApply, Vec<LogEntry>)>,
     err: &mut E,
 ) -> Result<Result<(), ExitCode>, AllocError>
-    ensures none { past ≡ None → IsOk result × IfOk result (λ answer. IsOk answer) × (given.new ≡ given.old) }
-    ensures recovered { IfOk result (λ answer. IfOk answer (λ _. IfSome past (λ log. ContinuesFrom (outside_replayed (⟦<RemoteTypes as Provider>⟧.meaning types.now) (map log_entry_of log.1.items)) log.0 given.old given.new))) }
+    ensures none { unfinished ≡ None → IsOk result × IfOk result (λ answer. IsOk answer) × (given.new ≡ given.old) }
+    ensures recovered { IfOk result (λ answer. IfOk answer (λ _. IfSome unfinished (λ log. ContinuesFrom (outside_replayed (⟦<RemoteTypes as Provider>⟧.meaning types.now) (map log_entry_of log.1.items)) log.0 given.old given.new))) }
     ensures status { IfOk result (λ answer. IfErr answer IsFailure) }
 {
-    match past {
+    match unfinished {
         None => Ok(Ok(())),
-        Some((past, entries)) => preview_by(rt, types, place, given, &past, entries, err),
+        Some((unfinished, entries)) => preview_by(
+            rt,
+            types,
+            place,
+            given,
+            &unfinished,
+            entries,
+            err,
+        ),
     }
 }
 
@@ -50,11 +58,11 @@ fn preview_by<E: Write>(
     types: &RemoteTypes,
     place: &Place,
     given: &mut ProgramInput,
-    past: &Past,
+    unfinished: &UnfinishedApply,
     entries: Vec<LogEntry>,
     err: &mut E,
 ) -> Result<Result<(), ExitCode>, AllocError>
-    ensures recovered { IfOk result (λ answer. IfOk answer (λ _. ContinuesFrom (outside_replayed (⟦<RemoteTypes as Provider>⟧.meaning types.now) (map log_entry_of entries.items)) past.now given.old given.new)) }
+    ensures recovered { IfOk result (λ answer. IfOk answer (λ _. ContinuesFrom (outside_replayed (⟦<RemoteTypes as Provider>⟧.meaning types.now) (map log_entry_of entries.items)) unfinished.now given.old given.new)) }
     ensures status { IfOk result (λ answer. IfErr answer IsFailure) }
 {
     let alloc = rt.alloc();
@@ -63,7 +71,7 @@ fn preview_by<E: Write>(
     providers.push(Box::new(alloc, remote)?)?;
     providers.push(Box::new(alloc, sim)?)?;
     providers.push(Box::new(alloc, files)?)?;
-    Ok(preview_recovery(alloc, place, given, past, providers.as_slice(), err))
+    Ok(preview_recovery(alloc, place, given, unfinished, providers.as_slice(), err))
 }
 
 /// Recovers the state that an unfinished apply left, if there is one, writes it and empties the log, which is `file`: `given`
@@ -80,18 +88,28 @@ pub fn recover<O: Write, E: Write>(
     place: &Place,
     file: &File,
     given: &mut ProgramInput,
-    past: Option<(Past, Vec<LogEntry>)>,
+    unfinished: Option<(UnfinishedApply, Vec<LogEntry>)>,
     out: &mut O,
     err: &mut E,
 ) -> Result<Result<(), ExitCode>, AllocError>
-    ensures none { past ≡ None → IsOk result × IfOk result (λ answer. IsOk answer) × (given.new ≡ given.old) }
-    ensures recovered { IfOk result (λ answer. IfOk answer (λ _. IfSome past (λ log. ContinuesFrom (outside_replayed (⟦<RemoteTypes as Provider>⟧.meaning types.now) (map log_entry_of log.1.items)) log.0 given.old given.new))) }
-    ensures looked { IfOk result (λ answer. IfOk answer (λ _. IfSome past (λ log. IsInspected log.0 given.old.options))) }
+    ensures none { unfinished ≡ None → IsOk result × IfOk result (λ answer. IsOk answer) × (given.new ≡ given.old) }
+    ensures recovered { IfOk result (λ answer. IfOk answer (λ _. IfSome unfinished (λ log. ContinuesFrom (outside_replayed (⟦<RemoteTypes as Provider>⟧.meaning types.now) (map log_entry_of log.1.items)) log.0 given.old given.new))) }
+    ensures looked { IfOk result (λ answer. IfOk answer (λ _. IfSome unfinished (λ log. IsInspected log.0 given.old.options))) }
 {
-    match past {
+    match unfinished {
         None => Ok(Ok(())),
-        Some((past, entries)) => {
-            recover_by(rt, types, place, file, given, &past, entries, out, err)
+        Some((unfinished, entries)) => {
+            recover_by(
+                rt,
+                types,
+                place,
+                file,
+                given,
+                &unfinished,
+                entries,
+                out,
+                err,
+            )
         }
     }
 }
@@ -103,13 +121,13 @@ fn recover_by<O: Write, E: Write>(
     place: &Place,
     file: &File,
     given: &mut ProgramInput,
-    past: &Past,
+    unfinished: &UnfinishedApply,
     entries: Vec<LogEntry>,
     out: &mut O,
     err: &mut E,
 ) -> Result<Result<(), ExitCode>, AllocError>
-    ensures recovered { IfOk result (λ answer. IfOk answer (λ _. ContinuesFrom (outside_replayed (⟦<RemoteTypes as Provider>⟧.meaning types.now) (map log_entry_of entries.items)) past.now given.old given.new)) }
-    ensures looked { IfOk result (λ answer. IfOk answer (λ _. IsInspected past.now given.old.options)) }
+    ensures recovered { IfOk result (λ answer. IfOk answer (λ _. ContinuesFrom (outside_replayed (⟦<RemoteTypes as Provider>⟧.meaning types.now) (map log_entry_of entries.items)) unfinished.now given.old given.new)) }
+    ensures looked { IfOk result (λ answer. IfOk answer (λ _. IsInspected unfinished.now given.old.options)) }
 {
     let alloc = rt.alloc();
     let ReplayedProviders { remote, sim, files } = replayed_providers(rt, types, entries)?;
@@ -117,7 +135,16 @@ fn recover_by<O: Write, E: Write>(
     providers.push(Box::new(alloc, remote)?)?;
     providers.push(Box::new(alloc, sim)?)?;
     providers.push(Box::new(alloc, files)?)?;
-    Ok(finish_recovery(rt, place, file, given, past, providers.as_slice(), out, err))
+    Ok(finish_recovery(
+        rt,
+        place,
+        file,
+        given,
+        unfinished,
+        providers.as_slice(),
+        out,
+        err,
+    ))
 }
 
 /// The providers of a recovery: each answers from its own entries of the log.

@@ -1,23 +1,24 @@
 //! The schemas of the providers outside the program.
 
+use crate::explaining::unread;
 use std::alloc::{AllocError, Global};
 use std::fs;
 use std::io::Write;
 use std::process::ExitCode;
-use tf_cli_files::{tell_no_memory, tell_unread};
+use tf_cli_files::{Ending, print_no_memory};
 use tf_provider_remote::{RemoteType, RemoteTypes, SchemasFault, read_schemas};
 
 /// Reads the schemas of the providers in these folders, in their order. If a file can't be read, or isn't of schemas,
-/// prints that and returns the program's status.
+/// prints that and returns the program's end.
 pub(crate) fn read_types<E: Write>(
     rt: &HostRuntime,
     folders: &[String],
     err: &mut E,
-) -> Result<RemoteTypes, ExitCode> {
+) -> Result<RemoteTypes, Ending> {
     match types_in(rt, folders, err) {
         Ok(Ok(types)) => Ok(types),
-        Ok(Err(status)) => Err(status),
-        Err(AllocError) => Err(tell_no_memory(err)),
+        Ok(Err(ending)) => Err(ending),
+        Err(AllocError) => Err(Ending::from(print_no_memory(err))),
     }
 }
 
@@ -26,14 +27,14 @@ fn types_in<E: Write>(
     rt: &HostRuntime,
     folders: &[String],
     err: &mut E,
-) -> Result<Result<RemoteTypes, ExitCode>, AllocError> {
+) -> Result<Result<RemoteTypes, Ending>, AllocError> {
     let alloc = rt.alloc();
     let mut types = Vec::new(alloc);
     for (provider, folder) in folders.iter().enumerate() {
         let name = file_in(alloc, folder.as_str(), "schemas.json")?;
         match read_file(rt, provider, name.as_str(), err) {
             Ok(own) => add_all(&mut types, own)?,
-            Err(status) => return Ok(Err(status)),
+            Err(ending) => return Ok(Err(ending)),
         }
     }
     Ok(Ok(RemoteTypes::new(alloc, types)?))
@@ -45,17 +46,17 @@ fn read_file<E: Write>(
     provider: usize,
     name: &str,
     err: &mut E,
-) -> Result<Vec<RemoteType>, ExitCode> {
+) -> Result<Vec<RemoteType>, Ending> {
     let text = match fs::read(rt, name) {
         Ok(text) => text,
-        Err(_) => return Err(tell_unread(name, err)),
+        Err(error) => return Err(unread(name, error, err)),
     };
     match read_schemas(rt.alloc(), provider, text.as_slice()) {
         Ok(types) => Ok(types),
-        Err(SchemasFault::OutOfMemory) => Err(tell_no_memory(err)),
+        Err(SchemasFault::OutOfMemory) => Err(Ending::from(print_no_memory(err))),
         Err(fault) => {
             let _ = writeln!(err, "error: {name}: {fault}");
-            Err(ExitCode::FAILURE)
+            Err(Ending::from(ExitCode::FAILURE))
         }
     }
 }

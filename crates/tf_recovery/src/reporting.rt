@@ -3,6 +3,7 @@
 use std::fs;
 use std::io::{Stdout, Write};
 use tf_cli_events::{CallEvents, Events, Writer, outputs_event, version_event};
+use tf_cli_files::ApplyEvents;
 
 /// Returns the place where events are written, if there are any.
 pub(crate) fn writer(rt: &HostRuntime, has_events: bool) -> Option<Stdout> {
@@ -10,7 +11,7 @@ pub(crate) fn writer(rt: &HostRuntime, has_events: bool) -> Option<Stdout> {
 }
 
 /// Returns the events of calls.
-pub(crate) fn call_events(rt: &HostRuntime, has_events: bool) -> CallEvents<Stdout, HostRuntime> {
+pub(crate) fn call_events(rt: &HostRuntime, has_events: bool) -> ApplyEvents {
     CallEvents::new(rt.alloc(), writer(rt, has_events), *rt)
 }
 

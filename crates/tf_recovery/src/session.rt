@@ -7,10 +7,9 @@ ghost use Rattle.tf_recovery.specs.Begun.{has_begun};
 use crate::pipes::{Loss, Pipe};
 use std::alloc::{AllocError, Global};
 use std::fs::File;
-use std::io::{Stdout, Write};
+use std::io::Write;
 use std::{fs, mem};
-use tf_cli_events::CallEvents;
-use tf_cli_files::{LogSink, ProgramInput};
+use tf_cli_files::{ApplyEvents, LogSink, ProgramInput};
 use tf_provider::{Provider, Reply, Request, first_provider};
 use tf_provider_log::{Announced, LogEntry, OpenLog, is_begun};
 use tf_provider_remote::{Flight, Flights, RemoteTypes, Response, Unsent, request_line};
@@ -39,8 +38,8 @@ pub(crate) struct Session {
     pub(crate) next_id: u64,
     /// How many requests may be in flight.
     pub(crate) most: usize,
-    /// Where the calls are reported.
-    events: CallEvents<Stdout, HostRuntime>,
+    /// Where the calls of providers outside the program are reported. Those of the others report by themselves.
+    events: ApplyEvents,
 }
 
 impl Session {
@@ -50,7 +49,7 @@ impl Session {
         types: RemoteTypes,
         pipes: Vec<Pipe>,
         most: usize,
-        events: CallEvents<Stdout, HostRuntime>,
+        events: ApplyEvents,
     ) -> Result<Session, AllocError> {
         let mut lost = Vec::new(alloc);
         for _ in 0..pipes.len() {
@@ -137,12 +136,10 @@ impl Session {
         if self.has_begun(&request) {
             return Ok(());
         }
-        self.events.begin(&request);
         let reply = match first_provider(providers, request.type_name.as_str()) {
             Some(provider) => provider.apply(&request),
             None => Reply::NoMemory,
         };
-        self.events.end(&request, &reply, None);
         if log.is_lost() {
             self.is_closed = true;
         }
@@ -218,6 +215,7 @@ impl Session {
         if waiting.is_empty() || self.is_closed {
             return Ok(());
         }
+        self.flights.reserve(waiting.len())?;
         let announced = announced(alloc, log, waiting.as_slice());
         let count = announced.len();
         for (announced, flight) in announced.into_iter().zip(waiting.as_slice()) {

@@ -1,5 +1,6 @@
 //! The results of calls that were in flight when an apply ended.
 
+use crate::explaining::unread;
 use crate::repeating::without_idempotent;
 use std::alloc::{AllocError, Global};
 use std::fs::File;
@@ -7,7 +8,8 @@ use std::io::{ErrorKind, Write};
 use std::process::ExitCode;
 use std::{fmt, fs, io};
 use tf_cli_files::{
-    LineFile, Past, Place, ProgramInput, see_past, tell_no_log, tell_no_memory, tell_unread,
+    Ending, LineFile, Place, ProgramInput, UnfinishedApply, print_no_log, print_no_memory,
+    read_unfinished_apply,
 };
 use tf_cli_lines::verb_text;
 use tf_cli_program::{is_inspected, is_state};
@@ -27,31 +29,26 @@ pub(crate) fn settle<E: Write>(
     place: &Place,
     file: &File,
     given: &ProgramInput,
-    past: Option<(Past, Vec<LogEntry>)>,
+    unfinished: Option<(UnfinishedApply, Vec<LogEntry>)>,
     err: &mut E,
-) -> Result<Option<(Past, Vec<LogEntry>)>, ExitCode> {
-    match (&given.options.in_flight, &past) {
+) -> Result<Option<(UnfinishedApply, Vec<LogEntry>)>, Ending> {
+    match (&given.options.in_flight, &unfinished) {
         (Some(name), Some((found, _))) if !is_inspected(found, &given.options) => {
             if !is_state(given, &found.header.state) {
-                return Err(tell_other_state(name.as_str(), place, err));
+                return Err(Ending::from(print_other_state(name.as_str(), place, err)));
             }
             let in_flight = found.in_flight.as_slice();
             add_results(rt, types, place, file, name.as_str(), in_flight, err)?;
-            match see_past(rt, place, err) {
-                Ok(past) => match without_idempotent(rt.alloc(), types, past) {
-                    Ok(past) => Ok(past),
-                    Err(AllocError) => Err(tell_no_memory(err)),
-                },
-                Err(status) => Err(status),
-            }
+            let unfinished = read_unfinished_apply(rt, place, err)?;
+            Ok(without_idempotent(types, unfinished))
         }
-        _ => Ok(past),
+        _ => Ok(unfinished),
     }
 }
 
 /// Prints that the state isn't the one that an apply began with, so that no results are added to its log. Returns the program's status,
 /// 1.
-fn tell_other_state<E: Write>(name: &str, place: &Place, err: &mut E) -> ExitCode {
+fn print_other_state<E: Write>(name: &str, place: &Place, err: &mut E) -> ExitCode {
     let _ = writeln!(
         err,
         "error: {name}: {} is not the state that the apply began with",
@@ -69,18 +66,21 @@ fn add_results<E: Write>(
     name: &str,
     in_flight: &[Request],
     err: &mut E,
-) -> Result<(), ExitCode> {
-    let Ok(text) = fs::read(rt, name) else {
-        return Err(tell_unread(name, err));
+) -> Result<(), Ending> {
+    let text = match fs::read(rt, name) {
+        Ok(text) => text,
+        Err(error) => return Err(unread(name, error, err)),
     };
     let lines = match answers_by(rt, types, name, text.as_slice(), in_flight, err) {
-        Ok(Ok(lines)) => lines,
-        Ok(Err(status)) => return Err(status),
-        Err(AllocError) => return Err(tell_no_memory(err)),
+        Ok(lines) => lines?,
+        Err(AllocError) => return Err(Ending::from(print_no_memory(err))),
     };
     match append(rt, place, file, lines.as_str()) {
         Ok(()) => Ok(()),
-        Err(_) => Err(tell_no_log(place.log.as_str(), err)),
+        Err(error) => Err(Ending {
+            status: print_no_log(place.log.as_str(), err),
+            cause: Some(error),
+        }),
     }
 }
 

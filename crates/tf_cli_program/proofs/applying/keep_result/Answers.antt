@@ -22,7 +22,7 @@ returns-in-None-clause-ends g c = λ ms given before shown shows is. nothing_to_
     (shows_rest ms given c.args.printed c.args.answer _ _ _ _ c.show_rest-status.ensures.output c.show_rest-status.ensures.errors before shown shows is)
 
 pub returns-in-None-2-clause-settled : goal.returns-in-None-2-clause-settled
-returns-in-None-2-clause-settled g c = unchanged c.args.answer (sym c.in-None-2.ensures) (λ e. c.if-status-eq-UNWRITTEN.false (c.show_rest-status.ensures.status ∙ e))
+returns-in-None-2-clause-settled g c = unchanged c.args.answer (sym c.in-None-2.ensures) (λ e. c.if-status-eq-EXIT_STATE_NOT_WRITTEN.false (c.show_rest-status.ensures.status ∙ e))
 
 pub returns-in-None-2-clause-ends : goal.returns-in-None-2-clause-ends
 returns-in-None-2-clause-ends g c = λ ms given before shown shows is. nothing_to_write ms given _ _ _ _ _ c.args.answer c.state_to_write.result c.state_to_write.ensures c.in-None-2.is c.show_rest-status.ensures.status

@@ -21,5 +21,5 @@ returns-clause-recovered g c =
     ∙ ap (λ r. replayed (map log_entry_of r.entries.items) sim_meaning) c.in_ok-new-2.ensures.ok in
     let files = read_made lists.own-1 _ (inr (inr (inl tt))) refl Meaning (λ j v. j.1.meaning v) c.into_dyn_box-in_ok-new-3.result.vtable c.into_dyn_box-in_ok-new-3.result.value c.in_ok-new-3.field-0.value c.into_dyn_box-in_ok-new-3.ensures.1
     ∙ ap (λ r. replayed (map log_entry_of r.entries.items) file_meaning) c.in_ok-new-3.ensures.ok in
-    by_three _ c.as_slice.result.now (λ (ms : List Meaning). IfOk c.finish_recovery.result (λ _. ContinuesFrom ms c.args.past.now c.args.given.now c.finish_recovery.new.given)) _ _ _ (outside_replayed (remote_meaning (map type_of c.args.types.now.types.value.items)) (map log_entry_of c.args.entries.items)) c.into_dyn_box.result c.into_dyn_box-in_ok-new-2.result c.into_dyn_box-in_ok-new-3.result
+    by_three _ c.as_slice.result.now (λ (ms : List Meaning). IfOk c.finish_recovery.result (λ _. ContinuesFrom ms c.args.unfinished.now c.args.given.now c.finish_recovery.new.given)) _ _ _ (outside_replayed (remote_meaning (map type_of c.args.types.now.types.value.items)) (map log_entry_of c.args.entries.items)) c.into_dyn_box.result c.into_dyn_box-in_ok-new-2.result c.into_dyn_box-in_ok-new-3.result
     c.finish_recovery.ensures.from c.in_ok-remote.ensures (search rules) remote sim files

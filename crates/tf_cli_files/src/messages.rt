@@ -5,9 +5,9 @@ ghost use Rattle.tf_cli_lines.specs.Saved.{AppendsStart};
 ghost use Rattle.tf_cli_files.specs.Program.{IsFailure};
 ghost use Rattle.tf_cli_files.specs.Assigned.{assignment_line, said_of};
 
-use crate::past::Past;
 use crate::place::Place;
 use crate::requested::request_text;
+use crate::unfinished::UnfinishedApply;
 use std::alloc::Global;
 use std::io::Write;
 use std::process::ExitCode;
@@ -18,7 +18,7 @@ use tf_provider_log::LineFault;
 use tf_provider_protocol::Request;
 
 /// Prints that memory ran out, and returns the program's exit status.
-pub fn tell_no_memory<E: Write>(err: &mut E) -> ExitCode
+pub fn print_no_memory<E: Write>(err: &mut E) -> ExitCode
     ensures { IsFailure result }
 {
     let _ = print_refusal(&Refusal::OutOfMemory, err);
@@ -26,7 +26,7 @@ pub fn tell_no_memory<E: Write>(err: &mut E) -> ExitCode
 }
 
 /// Prints that another apply holds the lock of a state, and returns the program's exit status.
-pub fn tell_locked<E: Write>(file: &str, err: &mut E) -> ExitCode
+pub fn print_locked<E: Write>(file: &str, err: &mut E) -> ExitCode
     ensures { IsFailure result }
 {
     let _ = save_all(err, &["error: ", file, " is locked by another apply\n"]);
@@ -34,7 +34,7 @@ pub fn tell_locked<E: Write>(file: &str, err: &mut E) -> ExitCode
 }
 
 /// Prints that a log can't be written, so that no provider is called. Returns the program's exit status.
-pub fn tell_no_log<E: Write>(name: &str, err: &mut E) -> ExitCode
+pub fn print_no_log<E: Write>(name: &str, err: &mut E) -> ExitCode
     ensures { IsFailure result }
 {
     let _ = save_all(err, &["error: cannot write ", name, "\n"]);
@@ -42,7 +42,7 @@ pub fn tell_no_log<E: Write>(name: &str, err: &mut E) -> ExitCode
 }
 
 /// Prints that the state can't be written, so that no provider is called. Returns the program's exit status.
-pub(crate) fn tell_unwritable<E: Write>(file: &str, err: &mut E) -> ExitCode
+pub(crate) fn print_unwritable<E: Write>(file: &str, err: &mut E) -> ExitCode
     ensures { IsFailure result }
 {
     let _ = save_all(err, &["error: cannot write ", file, "\n"]);
@@ -50,7 +50,7 @@ pub(crate) fn tell_unwritable<E: Write>(file: &str, err: &mut E) -> ExitCode
 }
 
 /// Prints that a state or a log is a pipe, a device or a socket, and returns the program's exit status.
-pub(crate) fn tell_special<E: Write>(file: &str, err: &mut E) -> ExitCode
+pub(crate) fn print_special<E: Write>(file: &str, err: &mut E) -> ExitCode
     ensures { IsFailure result }
 {
     let _ = save_all(err, &["error: ", file, " isn't a regular file\n"]);
@@ -59,16 +59,16 @@ pub(crate) fn tell_special<E: Write>(file: &str, err: &mut E) -> ExitCode
 
 /// Prints why an assignment of a variable gives no value, and returns the program's exit status. The value isn't printed, since it
 /// may be a secret.
-pub(crate) fn tell_assignment<E: Write>(text: &str, cause: Cause, err: &mut E) -> ExitCode
+pub(crate) fn print_assignment<E: Write>(text: &str, cause: Cause, err: &mut E) -> ExitCode
     ensures status { IsFailure result }
     ensures told { AppendsStart (E.contents err.old) (E.contents err.new) (assignment_line text.now cause) }
 {
-    print_assignment(name_in(text), said_of(cause), err);
+    write_assignment(name_in(text), said_of(cause), err);
     ExitCode::FAILURE
 }
 
 /// Prints what is wrong with the value of a variable.
-fn print_assignment<E: Write>(name: &str, said: &str, err: &mut E)
+fn write_assignment<E: Write>(name: &str, said: &str, err: &mut E)
     ensures { AppendsStart (E.contents err.old) (E.contents err.new) (codes "error: --var " ++ (name.now ++ (said.now ++ 10 ∷ []))) }
 {
     let _ = save_all(err, &["error: --var ", name, said, "\n"]);
@@ -87,7 +87,12 @@ fn said_of(cause: Cause) -> &'static str
 }
 
 /// Prints that a line of a log is malformed, and returns the program's exit status.
-pub fn tell_bad_line<E: Write>(name: &str, number: usize, fault: LineFault, err: &mut E) -> ExitCode
+pub fn print_bad_line<E: Write>(
+    name: &str,
+    number: usize,
+    fault: LineFault,
+    err: &mut E,
+) -> ExitCode
     ensures { IsFailure result }
 {
     let _ = writeln!(err, "error: {name}: line {number}: {fault}");
@@ -95,7 +100,7 @@ pub fn tell_bad_line<E: Write>(name: &str, number: usize, fault: LineFault, err:
 }
 
 /// Prints that a log doesn't belong to the existing state, and returns the program's exit status.
-pub fn tell_misfit<E: Write>(place: &Place, err: &mut E) -> ExitCode
+pub fn print_misfit<E: Write>(place: &Place, err: &mut E) -> ExitCode
     ensures { IsFailure result }
 {
     let _ = save_all(
@@ -113,7 +118,7 @@ pub fn tell_misfit<E: Write>(place: &Place, err: &mut E) -> ExitCode
 
 /// Prints that not all results of a log could be recovered, so that nothing was written. Returns the program's exit
 /// status.
-pub fn tell_unrecovered<E: Write>(name: &str, err: &mut E) -> ExitCode
+pub fn print_unrecovered<E: Write>(name: &str, err: &mut E) -> ExitCode
     ensures { IsFailure result }
 {
     let _ = save_all(
@@ -124,7 +129,7 @@ pub fn tell_unrecovered<E: Write>(name: &str, err: &mut E) -> ExitCode
 }
 
 /// Prints that a log could not be written any more, so that no further call was begun.
-pub fn tell_lost<E: Write>(name: &str, err: &mut E) {
+pub fn print_lost<E: Write>(name: &str, err: &mut E) {
     let _ = save_all(
         err,
         &[
@@ -137,26 +142,26 @@ pub fn tell_lost<E: Write>(name: &str, err: &mut E) {
 
 /// Prints what is recovered of an interrupted apply: how many results, if there are any, and each request that was begun
 /// and has no recorded result.
-pub fn tell_past<E: Write>(alloc: Global, past: &Past, err: &mut E) {
-    if past.answers > 0 {
+pub fn print_recovered<E: Write>(alloc: Global, unfinished: &UnfinishedApply, err: &mut E) {
+    if unfinished.answers > 0 {
         let _ = writeln!(
             err,
             "recovered {} results of an apply that did not end",
-            past.answers
+            unfinished.answers
         );
     }
-    tell_calls(alloc, past, err);
+    print_calls_in_flight(alloc, unfinished, err);
 }
 
 /// Prints each request of an interrupted apply that was begun and has no recorded result.
-pub fn tell_calls<E: Write>(alloc: Global, past: &Past, err: &mut E) {
-    for request in &past.in_flight {
-        tell_in_flight(alloc, request, err);
+pub fn print_calls_in_flight<E: Write>(alloc: Global, unfinished: &UnfinishedApply, err: &mut E) {
+    for request in &unfinished.in_flight {
+        print_call_in_flight(alloc, request, err);
     }
 }
 
 /// Prints that a request was begun and has no recorded result, and its attributes.
-pub fn tell_in_flight<E: Write>(alloc: Global, request: &Request, err: &mut E) {
+pub fn print_call_in_flight<E: Write>(alloc: Global, request: &Request, err: &mut E) {
     let verb = verb_text(&Some(request.op));
     let _ = writeln!(
         err,

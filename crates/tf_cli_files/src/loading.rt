@@ -1,18 +1,18 @@
 //! Reading a program's files, and the log of an interrupted apply.
 
 ghost use Rattle.std.specs.Prelude.{IfErr};
-ghost use Rattle.tf_cli_files.specs.Program.{IsFailure};
+ghost use Rattle.tf_cli_files.specs.Program.{Fails};
 
+use crate::ending::Ending;
 use crate::given::ProgramInput;
 use crate::log_file::{LogFile, Settled, empty, open_log, read_log_file};
-use crate::past::{Past, read_past};
+use crate::messages::{print_locked, print_no_log, print_special, print_unwritable};
 use crate::place::Place;
-use crate::reading::{read_files, read_input, read_optional, tell_unread};
+use crate::reading::{print_unread, read_files, read_input, read_optional};
 use crate::replacing::check_new_file;
-use crate::telling::{tell_locked, tell_no_log, tell_special, tell_unwritable};
+use crate::unfinished::{UnfinishedApply, unfinished_apply_in};
 use std::fs::OpenFile;
 use std::io::Write;
-use std::process::ExitCode;
 use std::rt::Files;
 use std::{fs, io};
 use tf_cli_options::Options;
@@ -20,49 +20,51 @@ use tf_provider_log::LogEntry;
 
 /// A program's input, the files of its state, and an interrupted apply of this state.
 #[derive(Drop)]
-pub struct Seen {
+pub struct Loaded {
     /// The program's input.
     pub given: ProgramInput,
     /// The files of its state.
     pub place: Place,
     /// The interrupted apply, if there is one, and the entries of its log.
-    pub past: Option<(Past, Vec<LogEntry>)>,
+    pub unfinished: Option<(UnfinishedApply, Vec<LogEntry>)>,
 }
 
 /// Reads the files that the options name, and the log. If one can't be read, prints that and returns the program's
 /// exit status.
-pub fn see<R: Files + AllocGlobal, E: Write>(
+pub fn load<R: Files + AllocGlobal, E: Write>(
     rt: &R,
     options: Options,
     err: &mut E,
-) -> Result<Seen, ExitCode>
-    ensures { IfErr result IsFailure }
+) -> Result<Loaded, Ending>
+    ensures { IfErr result Fails }
 {
     let given = read_files(rt.alloc(), options, &|file| read_input(rt, file), err)?;
     let place = place_of(rt, &given, err)?;
-    see_state(rt, given, place, err)
+    load_state(rt, given, place, err)
 }
 
-/// Like [`see`], but takes the state's lock before reading the state. The lock is held until the log is closed. If
+/// Like [`load`], but takes the state's lock before reading the state. The lock is held until the log is closed. If
 /// somebody else holds it, prints that and returns the program's exit status.
-pub fn hold<R: Files + AllocGlobal, E: Write>(
+pub fn load_locked<R: Files + AllocGlobal, E: Write>(
     rt: &R,
     options: Options,
     err: &mut E,
-) -> Result<(Seen, R::File), ExitCode>
+) -> Result<(Loaded, R::File), Ending>
 where
     R::File: LogFile,
-    ensures { IfErr result IsFailure }
+    ensures { IfErr result Fails }
 {
     let given = read_files(rt.alloc(), options, &|file| read_input(rt, file), err)?;
     let place = place_of(rt, &given, err)?;
     let log = lock(rt, &given, &place, err)?;
     check_owner(rt, &place, &log, err)?;
-    let seen = see_state(rt, given, place, err)?;
-    if seen.past.is_none() && take_torn_away(&log).is_err() {
-        return Err(tell_no_log(seen.place.log.as_str(), err));
+    let loaded = load_state(rt, given, place, err)?;
+    if loaded.unfinished.is_none() {
+        if let Err(error) = take_torn_away(&log) {
+            return Err(Ending::by(print_no_log(loaded.place.log.as_str(), err), error));
+        }
     }
-    Ok((seen, log))
+    Ok((loaded, log))
 }
 
 /// Returns the files of the state that the options name. If its name leads nowhere, prints that the file can't be
@@ -71,15 +73,17 @@ fn place_of<R: Files + AllocGlobal, E: Write>(
     rt: &R,
     given: &ProgramInput,
     err: &mut E,
-) -> Result<Place, ExitCode>
-    ensures { IfErr result IsFailure }
+) -> Result<Place, Ending>
+    ensures { IfErr result Fails }
 {
-    let Ok(place) = Place::of(rt, given.options.state.as_str()) else {
-        return Err(tell_unread(given.options.state.as_str(), err));
+    let state = given.options.state.as_str();
+    let place = match Place::of(rt, state) {
+        Ok(place) => place,
+        Err(error) => return Err(Ending::by(print_unread(state, err), error)),
     };
     for name in [place.state.as_str(), place.log.as_str()] {
         if is_special(rt, name) {
-            return Err(tell_special(name, err));
+            return Err(Ending::from(print_special(name, err)));
         }
     }
     Ok(place)
@@ -100,13 +104,13 @@ fn check_owner<R: Files, E: Write>(
     place: &Place,
     log: &R::File,
     err: &mut E,
-) -> Result<(), ExitCode>
-    ensures { IfErr result IsFailure }
+) -> Result<(), Ending>
+    ensures { IfErr result Fails }
 {
     match check_new_file(rt, place, log) {
         Ok(true) => Ok(()),
-        Ok(false) => Err(tell_no_log(place.log.as_str(), err)),
-        Err(_) => Err(tell_unwritable(place.state.as_str(), err)),
+        Ok(false) => Err(Ending::from(print_no_log(place.log.as_str(), err))),
+        Err(error) => Err(Ending::by(print_unwritable(place.state.as_str(), err), error)),
     }
 }
 
@@ -116,15 +120,15 @@ fn lock<R: Files, E: Write>(
     given: &ProgramInput,
     place: &Place,
     err: &mut E,
-) -> Result<R::File, ExitCode>
+) -> Result<R::File, Ending>
 where
     R::File: LogFile,
-    ensures { IfErr result IsFailure }
+    ensures { IfErr result Fails }
 {
     match open_log(rt, place.log.as_str()) {
         Ok(Some(file)) => Ok(file),
-        Ok(None) => Err(tell_locked(given.options.state.as_str(), err)),
-        Err(_) => Err(tell_no_log(place.log.as_str(), err)),
+        Ok(None) => Err(Ending::from(print_locked(given.options.state.as_str(), err))),
+        Err(error) => Err(Ending::by(print_no_log(place.log.as_str(), err), error)),
     }
 }
 
@@ -137,32 +141,36 @@ fn take_torn_away<F: LogFile>(log: &F) -> io::Result<()> {
 }
 
 /// Reads the state, if there is one, and the log.
-fn see_state<R: Files + AllocGlobal, E: Write>(
+fn load_state<R: Files + AllocGlobal, E: Write>(
     rt: &R,
     mut given: ProgramInput,
     place: Place,
     err: &mut E,
-) -> Result<Seen, ExitCode>
-    ensures { IfErr result IsFailure }
+) -> Result<Loaded, Ending>
+    ensures { IfErr result Fails }
 {
     let read = |file: &str| -> io::Result<Vec<u8>> { fs::read(rt, file) };
     given.state = read_optional(place.state.as_str(), &read, err)?;
-    let past = see_past(rt, &place, err)?;
-    Ok(Seen { given, place, past })
+    let unfinished = read_unfinished_apply(rt, &place, err)?;
+    Ok(Loaded {
+        given,
+        place,
+        unfinished,
+    })
 }
 
 /// Reads the log, if there is one, and returns the interrupted apply that it records. If it isn't a log or can't be read,
 /// prints that and returns the program's exit status.
-pub fn see_past<R: Files + AllocGlobal, E: Write>(
+pub fn read_unfinished_apply<R: Files + AllocGlobal, E: Write>(
     rt: &R,
     place: &Place,
     err: &mut E,
-) -> Result<Option<(Past, Vec<LogEntry>)>, ExitCode>
-    ensures { IfErr result IsFailure }
+) -> Result<Option<(UnfinishedApply, Vec<LogEntry>)>, Ending>
+    ensures { IfErr result Fails }
 {
     let read_log = |file: &str| -> io::Result<Vec<u8>> { read_log_file(rt, file) };
     match read_optional(place.log.as_str(), &read_log, err)? {
-        Some(log) => read_past(rt.alloc(), place.log.as_str(), log.as_slice(), err),
+        Some(log) => Ok(unfinished_apply_in(rt.alloc(), place.log.as_str(), log.as_slice(), err)?),
         None => Ok(None),
     }
 }
