@@ -69,7 +69,7 @@ fn apply_given<T: Threads + Wait + Sync, O: Write, E: Write>(
     err: &mut E,
 ) -> io::Result<ExitCode> {
     let is_explained = explains(rt, &options);
-    match prepared(rt, options, out, err)? {
+    match prepare(rt, options, out, err)? {
         Ok(prepared) => apply_prepared(rt, threads, prepared, out, err),
         Err(ending) => Ok(end_early(ending, is_explained, err)),
     }
@@ -90,7 +90,7 @@ struct Prepared {
 
 /// Reads the files, locks the log and recovers an unfinished apply, if there is one. If the program can't continue, prints why and
 /// returns its end.
-fn prepared<O: Write, E: Write>(
+fn prepare<O: Write, E: Write>(
     rt: &HostRuntime,
     options: Options,
     out: &mut O,
