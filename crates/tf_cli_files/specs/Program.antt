@@ -1,5 +1,5 @@
 -- The end of a program if a file can't be read, or if memory ran out.
-use Rattle.std.specs.Prelude.{◌≡◌, ◌≤◌, ℕ, List, [], ◌∷◌, ◌++◌, codes, Option, Some, None, Result, Ok, Err, IfOk, MatchResult, Vec, option_map}
+use Rattle.std.specs.Prelude.{◌≡◌, ◌≤◌, ℕ, List, [], ◌∷◌, ◌++◌, codes, Option, Some, None, Result, Ok, Err, IfOk, IfSome, MatchResult, Vec, option_map}
 use Rattle.std.specs.Process.{exit_status}
 use Rattle.std.specs.declared.process.ExitCode.{ExitCode}
 use Rattle.tf_cli_lines.specs.Saved.{AppendsStart}
@@ -24,6 +24,18 @@ unread_line file = codes "error: cannot read " ++ (file ++ 10 ∷ [])
 -- a program ends before its work, with status 1
 abbrev pub Fails : Ending → Type 0
 Fails ending = IsFailure ending.status
+
+-- A program ends before its work, because a file of this name can't be read. The cause is the system's error.
+abbrev pub FailsReading : {X : Type 0} → (List ℕ → Result X Error → Type 0) → List ℕ → Ending → Type 0
+FailsReading Reads name ending = Fails ending × (error : Error) × (ending.cause ≡ Some error) × Reads name (Err error)
+
+-- A program ends before its work. If there is a cause, it is the error of a file that can't be read.
+abbrev pub MayFailReading : {X : Type 0} → (List ℕ → Result X Error → Type 0) → Ending → Type 0
+MayFailReading Reads ending = Fails ending × IfSome ending.cause (λ error. (name : List ℕ) × Reads name (Err error))
+
+-- Without a cause, a program ends before its work only after this file was read.
+abbrev pub HasRead : {X : Type 0} → (List ℕ → Result X Error → Type 0) → List ℕ → Ending → Type 0
+HasRead {X} Reads name ending = ending.cause ≡ None → (x : X) × Reads name (Ok x)
 
 -- What was read of a file is the result. If it can't be read, the program ends with status 1, and the cause is the system's error.
 abbrev pub GoesOn : {X : Type 0} → Result X Error → Result X Ending → Type 0

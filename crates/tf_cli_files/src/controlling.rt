@@ -2,11 +2,13 @@
 
 ghost use Rattle.std.specs.Prelude.{◌≡◌, IfOk};
 
+use crate::log_fault::LogFault;
 use crate::log_file::LineFile;
 use crate::log_sink::LogSink;
 use crate::stop_file::StopFile;
 use crate::stopping::{ApplyEvents, Countdown, Stopping};
 use std::alloc::{AllocError, Global};
+use std::io;
 use std::sync::Arc;
 use tf_provider_log::{Logged, OpenLog};
 use tf_provider_protocol::Provider;
@@ -18,6 +20,7 @@ use tf_walk_action::Stop;
 pub struct CallControl<F: LineFile> {
     log: Arc<OpenLog<LogSink<F>>>,
     countdown: Arc<Countdown>,
+    fault: Arc<LogFault>,
 }
 
 impl<F: LineFile> CallControl<F> {
@@ -31,27 +34,36 @@ impl<F: LineFile> CallControl<F> {
         stop_file: Option<StopFile>,
         events: ApplyEvents,
     ) -> Result<CallControl<F>, AllocError> {
+        let fault = Arc::new(alloc, LogFault::new())?;
+        let sink = LogSink::new(file, Arc::try_clone(&fault)?);
         Ok(CallControl {
-            log: Arc::new(alloc, OpenLog::new(LogSink::new(file)))?,
+            log: Arc::new(alloc, OpenLog::new(sink))?,
             countdown: Arc::new(alloc, Countdown::new(last, stop_file, events))?,
+            fault,
         })
     }
 
-    /// Wraps a provider so that its calls are counted, reported and logged. Its meaning stays the same.
+    /// Wraps a provider so that its calls are counted, logged and reported. That a call ended is reported when its reply is in the
+    /// log. Its meaning stays the same.
     pub fn wrap<P: Provider>(
         &self,
         alloc: Global,
         provider: P,
-    ) -> Result<Logged<Stopping<P>, LogSink<F>>, AllocError>
-        ensures { IfOk result (λ controlled. ⟦<Logged<Stopping<P>, LogSink<F>> as Provider>⟧.meaning controlled ≡ P.meaning provider) }
+    ) -> Result<Stopping<Logged<P, LogSink<F>>>, AllocError>
+        ensures { IfOk result (λ controlled. ⟦<Stopping<Logged<P, LogSink<F>>> as Provider>⟧.meaning controlled ≡ P.meaning provider) }
     {
-        let stopping = Stopping::new(provider, Arc::try_clone(&self.countdown)?);
-        Ok(Logged::new(alloc, Arc::try_clone(&self.log)?, stopping))
+        let logged = Logged::new(alloc, Arc::try_clone(&self.log)?, provider);
+        Ok(Stopping::new(logged, Arc::try_clone(&self.countdown)?))
     }
 
     /// Returns the log.
     pub fn log(&self) -> &OpenLog<LogSink<F>> {
         &self.log
+    }
+
+    /// Returns an error of the system because of which the log can't be written, if there is one.
+    pub fn log_cause(&self) -> Option<io::Error> {
+        self.fault.cause()
     }
 
     /// Returns the flag.

@@ -1,7 +1,7 @@
 //! Writing the state's text to its file or, if that fails, to standard output.
 
 ghost use Rattle.std.specs.Io.KnownBytes.{Appends};
-ghost use Rattle.std.specs.Prelude.{◌≡◌, OnOk};
+ghost use Rattle.std.specs.Prelude.{◌≡◌, OnErr, OnOk};
 ghost use Rattle.tf_cli_files.specs.Kept.{EndsKept, TakesStart, TakesWhole};
 ghost use Rattle.tf_cli_lines.specs.Saved.{AppendsStart};
 ghost use Rattle.tf_cli_lines.specs.Lines.{unwritten_line};
@@ -27,21 +27,34 @@ pub fn keep<W: Write, O: Write, E: Write>(
     ensures part { TakesStart W.contents file.entry file.exit text.now }
 {
     match file {
-        Some(file) => write_to(file, text, out, err),
-        None => print_unwritten(text, out, err),
+        Some(file) => match write_to(file, text, out, err) {
+            Ok(()) => 0,
+            Err(_) => EXIT_STATE_NOT_WRITTEN,
+        },
+        None => {
+            print_unwritten(text, out, err);
+            EXIT_STATE_NOT_WRITTEN
+        }
     }
 }
 
-/// Writes the state's text to its open file.
-fn write_to<W: Write, O: Write, E: Write>(file: &mut W, text: &str, out: &mut O, err: &mut E) -> u8
-    ensures ends { EndsKept 0 result text.now (O.contents out.old) (O.contents out.new) (E.contents err.old) (E.contents err.new) }
-    ensures whole { result ≡ 0 → Appends (W.contents file.old) (W.contents file.new) text.now }
+/// Writes the state's text to its open file. If that fails, prints that the state isn't written, and its text.
+pub(crate) fn write_to<W: Write, O: Write, E: Write>(
+    file: &mut W,
+    text: &str,
+    out: &mut O,
+    err: &mut E,
+) -> Result<(), SaveFault>
+    ensures kept { OnOk result ((O.contents out.new ≡ O.contents out.old) × (E.contents err.new ≡ E.contents err.old)) }
+    ensures not_kept { OnErr result (AppendsStart (O.contents out.old) (O.contents out.new) text.now × AppendsStart (E.contents err.old) (E.contents err.new) unwritten_line) }
+    ensures whole { OnOk result (Appends (W.contents file.old) (W.contents file.new) text.now) }
     ensures part { AppendsStart (W.contents file.old) (W.contents file.new) text.now }
 {
-    match write_and_flush(file, text) {
-        Ok(()) => 0,
-        Err(_) => print_unwritten(text, out, err),
+    let written = write_and_flush(file, text);
+    if written.is_err() {
+        print_unwritten(text, out, err);
     }
+    written
 }
 
 /// Writes a text, and flushes the writer, which puts the text in its place.
@@ -54,13 +67,11 @@ fn write_and_flush<W: Write>(writer: &mut W, text: &str) -> Result<(), SaveFault
     Ok(())
 }
 
-/// Prints that the state isn't written, prints its text, and returns the status.
-fn print_unwritten<O: Write, E: Write>(text: &str, out: &mut O, err: &mut E) -> u8
-    ensures status { result ≡ 3 }
+/// Prints that the state isn't written, and its text.
+pub(crate) fn print_unwritten<O: Write, E: Write>(text: &str, out: &mut O, err: &mut E)
     ensures output { AppendsStart (O.contents out.old) (O.contents out.new) text.now }
     ensures errors { AppendsStart (E.contents err.old) (E.contents err.new) unwritten_line }
 {
     let _ = save(err, "error: state not written\n");
     let _ = save(out, text);
-    EXIT_STATE_NOT_WRITTEN
 }

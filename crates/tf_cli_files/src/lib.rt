@@ -7,6 +7,7 @@ mod ending;
 mod given;
 mod keeping;
 mod loading;
+mod log_fault;
 mod log_file;
 mod log_sink;
 mod messages;
@@ -25,11 +26,12 @@ pub use ending::Ending;
 pub use given::ProgramInput;
 pub use keeping::{EXIT_STATE_NOT_WRITTEN, keep};
 pub use loading::{Loaded, load, load_locked, read_unfinished_apply};
+pub use log_fault::LogFault;
 pub use log_file::{LineFile, LogFile, Settled, empty};
 pub use log_sink::LogSink;
 pub use messages::{
-    print_call_in_flight, print_calls_in_flight, print_lost, print_misfit, print_no_log,
-    print_no_memory, print_recovered, print_unrecovered,
+    print_call_in_flight, print_calls_in_flight, print_cause, print_lost, print_misfit,
+    print_no_log, print_no_memory, print_recovered, print_unrecovered,
 };
 pub use place::Place;
 pub use program::run;

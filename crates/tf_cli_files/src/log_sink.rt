@@ -1,6 +1,8 @@
 //! The lines of a log, appended to its file and synced.
 
+use crate::log_fault::LogFault;
 use crate::log_file::LineFile;
+use std::io;
 use std::sync::Arc;
 use std::sync::atomic::{AtomicBool, AtomicU64, Ordering};
 use tf_provider_log::{Durability, NotAdded, Sink};
@@ -19,16 +21,18 @@ pub struct LogSink<F: LineFile> {
     /// Whether a line wasn't written whole, or a sync failed. After a failed sync the system may drop lines, and a later
     /// sync doesn't say so.
     has_failed: AtomicBool,
+    fault: Arc<LogFault>,
 }
 
 impl<F: LineFile> LogSink<F> {
-    /// Returns a sink that appends to the log in this file.
-    pub fn new(file: Arc<F>) -> LogSink<F> {
+    /// Returns a sink that appends to the log in this file, and keeps an error of the system there.
+    pub fn new(file: Arc<F>, fault: Arc<LogFault>) -> LogSink<F> {
         LogSink {
             file,
             written: AtomicU64::new(0),
             on_disk: AtomicU64::new(0),
             has_failed: AtomicBool::new(false),
+            fault,
         }
     }
 
@@ -39,7 +43,8 @@ impl<F: LineFile> LogSink<F> {
                 self.written.fetch_add(1, Ordering::SeqCst);
                 Ok(())
             }
-            _ => Err(self.fail()),
+            Ok(_) => Err(self.fail()),
+            Err(error) => Err(self.fail_by(&error)),
         }
     }
 
@@ -49,8 +54,8 @@ impl<F: LineFile> LogSink<F> {
         if count <= self.on_disk.load(Ordering::SeqCst) {
             return Ok(());
         }
-        if self.file.sync_lines().is_err() {
-            return Err(self.fail());
+        if let Err(error) = self.file.sync_lines() {
+            return Err(self.fail_by(&error));
         }
         self.on_disk.fetch_max(count, Ordering::SeqCst);
         if self.has_failed.load(Ordering::SeqCst) {
@@ -58,6 +63,12 @@ impl<F: LineFile> LogSink<F> {
         } else {
             Ok(())
         }
+    }
+
+    /// Keeps an error, because of which a line isn't in the file, or may not be on the disk.
+    fn fail_by(&self, error: &io::Error) -> NotAdded {
+        self.fault.keep(error);
+        self.fail()
     }
 
     /// Notes that a line isn't in the file, or may not be on the disk.

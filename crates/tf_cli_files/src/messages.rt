@@ -1,6 +1,6 @@
 //! Messages on standard error about logs and locks.
 
-ghost use Rattle.std.specs.Prelude.{◌≡◌, ◌∷◌, ◌++◌, [], codes, string_bytes};
+ghost use Rattle.std.specs.Prelude.{◌≡◌, ◌∷◌, ◌++◌, [], codes, false, string_bytes};
 ghost use Rattle.tf_cli_lines.specs.Saved.{AppendsStart};
 ghost use Rattle.tf_cli_files.specs.Program.{IsFailure};
 ghost use Rattle.tf_cli_files.specs.Assigned.{assignment_line, said_of};
@@ -9,6 +9,7 @@ use crate::place::Place;
 use crate::requested::request_text;
 use crate::unfinished::UnfinishedApply;
 use std::alloc::Global;
+use std::io;
 use std::io::Write;
 use std::process::ExitCode;
 use tf_cli_lines::{print_refusal, save, save_all, verb_text};
@@ -23,6 +24,15 @@ pub fn print_no_memory<E: Write>(err: &mut E) -> ExitCode
 {
     let _ = print_refusal(&Refusal::OutOfMemory, err);
     ExitCode::FAILURE
+}
+
+/// Prints an error of the system below the program's error, if errors are explained.
+pub fn print_cause<E: Write>(cause: &io::Error, explains: bool, err: &mut E)
+    ensures { explains ≡ false → E.contents err.new ≡ E.contents err.old }
+{
+    if explains {
+        let _ = writeln!(err, "  {cause}");
+    }
 }
 
 /// Prints that another apply holds the lock of a state, and returns the program's exit status.

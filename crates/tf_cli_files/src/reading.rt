@@ -4,7 +4,7 @@ ghost use Rattle.std.specs.Fn.{FnReturnsAt};
 ghost use Rattle.std.specs.IoError.{error_kind};
 ghost use Rattle.std.specs.Prelude.{◌≡◌, IfErr, IfOk, None, Ok, string_bytes};
 ghost use Rattle.tf_cli_lines.specs.Saved.{AppendsStart};
-ghost use Rattle.tf_cli_files.specs.Program.{AreReads, Fails, GoesOn, IsFailure, ReadsOptional, PrintsUnread, unread_line};
+ghost use Rattle.tf_cli_files.specs.Program.{AreReads, FailsReading, GoesOn, HasRead, IsFailure, MayFailReading, ReadsOptional, PrintsUnread, unread_line};
 
 use crate::ending::Ending;
 use crate::given::ProgramInput;
@@ -41,7 +41,8 @@ pub fn read_files<F: Fn(&str) -> io::Result<Vec<u8>>, E: Write>(
     err: &mut E,
 ) -> Result<ProgramInput, Ending>
     requires { F.IsAlwaysCallable read.now }
-    ensures status { IfErr result Fails }
+    ensures status { IfErr result (MayFailReading (FnReturnsAt F.Fn read.now)) }
+    ensures cause { IfErr result (HasRead (FnReturnsAt F.Fn read.now) (string_bytes options.config)) }
     ensures options { IfOk result (λ given. given.options ≡ options) }
     ensures files { IfOk result (λ given. AreReads (FnReturnsAt F.Fn read.now) (string_bytes options.config) options.variables.items given.config given.vars) }
     ensures stateless { IfOk result (λ given. given.state ≡ None) }
@@ -68,7 +69,7 @@ pub(crate) fn read_file<F: Fn(&str) -> io::Result<Vec<u8>>, E: Write>(
     err: &mut E,
 ) -> Result<Vec<u8>, Ending>
     requires { F.IsAlwaysCallable read.now }
-    ensures status { IfErr result Fails }
+    ensures status { IfErr result (FailsReading (FnReturnsAt F.Fn read.now) file.now) }
     ensures read { IfOk result (λ bytes. FnReturnsAt F.Fn read.now file.now (Ok bytes)) }
 {
     read_or_print(read(file), file, err)
@@ -82,7 +83,7 @@ pub fn read_optional<F: Fn(&str) -> io::Result<Vec<u8>>, E: Write>(
     err: &mut E,
 ) -> Result<Option<Vec<u8>>, Ending>
     requires { F.IsAlwaysCallable read.now }
-    ensures status { IfErr result Fails }
+    ensures status { IfErr result (FailsReading (FnReturnsAt F.Fn read.now) file.now) }
     ensures read { IfOk result (λ state. ReadsOptional (λ e. error_kind e ≡ ErrorKind.NotFound) (FnReturnsAt F.Fn read.now) file.now state) }
 {
     match read(file) {

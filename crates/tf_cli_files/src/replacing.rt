@@ -1,11 +1,11 @@
 //! Replacing the state file.
 
-ghost use Rattle.std.specs.Prelude.{◌≡◌, IfOk, OnErr, string_bytes};
-ghost use Rattle.tf_cli_files.specs.Kept.{EndsKept, text_in_place};
+ghost use Rattle.std.specs.Prelude.{◌≡◌, IfOk, OnErr, OnOk, string_bytes};
+ghost use Rattle.tf_cli_files.specs.Kept.{text_in_place};
 ghost use Rattle.tf_cli_lines.specs.Lines.{unwritten_line};
 ghost use Rattle.tf_cli_lines.specs.Saved.{AppendsStart};
 
-use crate::keeping::keep;
+use crate::keeping::{print_unwritten, write_to};
 use crate::log_file::OWNER_ALONE;
 use crate::place::Place;
 use std::fs::{Metadata, OpenFile, OpenOptions, Permissions};
@@ -13,6 +13,7 @@ use std::io::{ErrorKind, Write};
 use std::os::unix::fs::{MetadataExt, OpenOptionsExt, PermissionsExt, lchown};
 use std::rt::Files;
 use std::{fs, io};
+use tf_cli_lines::SaveFault;
 
 /// The bits of a file's mode that are its permissions.
 const PERMISSIONS: u32 = 0o7777;
@@ -149,8 +150,26 @@ impl InPlace {
 
 /// The state file doesn't have the text that was to be written. Standard error reports that, and standard output has
 /// the text.
-#[derive(Clone, Copy, Debug, PartialEq, Eq)]
-pub struct NotInPlace;
+#[derive(Drop)]
+pub struct NotInPlace {
+    /// The error because of which the file isn't replaced. It isn't printed.
+    pub cause: io::Error,
+}
+
+impl From<io::Error> for NotInPlace {
+    fn from(cause: io::Error) -> NotInPlace {
+        NotInPlace { cause }
+    }
+}
+
+impl From<SaveFault> for NotInPlace {
+    fn from(fault: SaveFault) -> NotInPlace {
+        match fault {
+            SaveFault::Write(cause) => NotInPlace { cause },
+            SaveFault::TookNothing => NotInPlace::from(io::Error::from(ErrorKind::WriteZero)),
+        }
+    }
+}
 
 /// Replaces the state file by one with this text: writes a new file next to it, and renames it when all of it is on
 /// the disk. The old file stays as the backup.
@@ -170,24 +189,31 @@ pub fn write_state<R: Files, O: Write, E: Write>(
     ensures kept { IfOk result (λ in_place. (text_in_place in_place ≡ string_bytes text) × (O.contents out.new ≡ O.contents out.old) × (E.contents err.new ≡ E.contents err.old)) }
     ensures not_kept { OnErr result (AppendsStart (O.contents out.old) (O.contents out.new) (string_bytes text) × AppendsStart (E.contents err.old) (E.contents err.new) unwritten_line) }
 {
-    let kept = keep_by(rt, place, text.as_str(), out, err);
-    if kept == 0 {
-        return Ok(InPlace { text });
+    match write_new(rt, place, text.as_str(), out, err) {
+        Ok(()) => Ok(InPlace { text }),
+        Err(fault) => {
+            let _ = fs::remove_file(rt, place.new.as_str());
+            Err(fault)
+        }
     }
-    let _ = fs::remove_file(rt, place.new.as_str());
-    Err(NotInPlace)
 }
 
-/// Replaces the state file by one with this text. Returns 0, or 3 if the file isn't replaced.
-fn keep_by<R: Files, O: Write, E: Write>(
+/// Writes a new file with this text, which replaces the state file. If that fails, prints that the state isn't written, and the text.
+fn write_new<R: Files, O: Write, E: Write>(
     rt: &R,
     place: &Place,
     text: &str,
     out: &mut O,
     err: &mut E,
-) -> u8
-    ensures { EndsKept 0 result text.now (O.contents out.old) (O.contents out.new) (E.contents err.old) (E.contents err.new) }
+) -> Result<(), NotInPlace>
+    ensures kept { OnOk result ((O.contents out.new ≡ O.contents out.old) × (E.contents err.new ≡ E.contents err.old)) }
+    ensures not_kept { OnErr result (AppendsStart (O.contents out.old) (O.contents out.new) text.now × AppendsStart (E.contents err.old) (E.contents err.new) unwritten_line) }
 {
-    let mut opened = Replacement::create(rt, place).ok();
-    keep(opened.as_mut(), text, out, err)
+    match Replacement::create(rt, place) {
+        Ok(mut file) => Ok(write_to(&mut file, text, out, err)?),
+        Err(cause) => {
+            print_unwritten(text, out, err);
+            Err(NotInPlace { cause })
+        }
+    }
 }

@@ -2,7 +2,7 @@
 
 ghost use Rattle.std.specs.Fn.{FnReturnsAt};
 ghost use Rattle.std.specs.Prelude.{◌≡◌, ◌∷◌, ◌++◌, [], IfErr, IfOk, Ok, OnOk, option_map};
-ghost use Rattle.tf_cli_files.specs.Program.{Fails, IsFailure};
+ghost use Rattle.tf_cli_files.specs.Program.{IsFailure, MayFailReading};
 ghost use Rattle.tf_cli_files.specs.Sources.{EachRead, ReadsSource};
 ghost use Rattle.tf_cli_variables.specs.Choice.{AreVariables};
 
@@ -27,7 +27,7 @@ pub(crate) fn read_sources<F: Fn(&str) -> io::Result<Vec<u8>>, E: Write>(
     err: &mut E,
 ) -> Result<Vec<Source>, Ending>
     requires { F.IsAlwaysCallable read.now }
-    ensures status { IfErr result Fails }
+    ensures status { IfErr result (MayFailReading (FnReturnsAt F.Fn read.now)) }
     ensures read { IfOk result (λ sources. EachRead (FnReturnsAt F.Fn read.now) names.now sources.items) }
 {
     let mut sources = Vec::new(alloc);
@@ -55,7 +55,7 @@ fn read_source<F: Fn(&str) -> io::Result<Vec<u8>>, E: Write>(
     err: &mut E,
 ) -> Result<Source, Ending>
     requires { F.IsAlwaysCallable read.now }
-    ensures status { IfErr result Fails }
+    ensures status { IfErr result (MayFailReading (FnReturnsAt F.Fn read.now)) }
     ensures read { IfOk result (ReadsSource (FnReturnsAt F.Fn read.now) name.now) }
 {
     match name {

@@ -124,11 +124,11 @@ EndsApply ms given answer result out out_after err err_after = EndsWith ms given
 
 -- Why the log of an apply isn't needed any more: the state file was replaced by the text to write, or the state hasn't changed. It is
 -- still needed only if the state isn't written, which is status 3.
-abbrev pub IsSettled : Result Applied Refused → (status : ℕ) → Option Settled → Type 0
-IsSettled answer status None = status ≡ 3
-IsSettled answer status (Some (Replaced in_place)) = to_write answer ≡ Some (text_in_place in_place)
-IsSettled answer status (Some UpToDate) = IfOk answer (λ a. a.changed ≡ false)
-IsSettled answer status (Some NoCalls) = ⊥
+abbrev pub IsSettled : {E : Type 0} → Result Applied Refused → (status : ℕ) → Result Settled E → Type 0
+IsSettled answer status (Err cause) = status ≡ 3
+IsSettled answer status (Ok (Replaced in_place)) = to_write answer ≡ Some (text_in_place in_place)
+IsSettled answer status (Ok UpToDate) = IfOk answer (λ a. a.changed ≡ false)
+IsSettled answer status (Ok NoCalls) = ⊥
 
 -- An apply of which the plan is printed ends with this status, and may print more on standard error.
 abbrev pub EndsAs : List Meaning → ProgramInput → Result Applied Refused → (result : ExitCode) (out out_after err : Option (List ℕ)) → Type 0

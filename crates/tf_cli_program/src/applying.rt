@@ -16,6 +16,7 @@ use crate::approval::Approval;
 use crate::logging::{empty_log, start};
 use crate::planning::plan_given;
 use std::alloc::Global;
+use std::io;
 use std::io::Write;
 use std::process::ExitCode;
 use std::rt::Files;
@@ -26,8 +27,8 @@ use tf_cli::{
     text_of,
 };
 use tf_cli_files::{
-    EXIT_STATE_NOT_WRITTEN, LogFile, NotInPlace, Place, ProgramInput, Settled, print_lost,
-    write_state,
+    EXIT_STATE_NOT_WRITTEN, LogFile, NotInPlace, Place, ProgramInput, Settled, print_cause,
+    print_lost, write_state,
 };
 use tf_cli_options::Options;
 use tf_plan_data::Planned;
@@ -205,7 +206,8 @@ where
     let printed = print_text(printed, shown_of(&text, &diff), out);
     let workers = given.options.parallelism;
     let answer = carry_out(threads, rt.alloc(), planned, text, providers, workers, stop);
-    end_apply(rt, place, file, log, answer, printed, out, err)
+    let explains = given.options.explain;
+    end_apply(rt, place, file, log, explains, answer, printed, out, err)
 }
 
 /// Prints a text, unless it is already printed.
@@ -219,12 +221,14 @@ fn print_text<O: Write>(printed: Option<Printed>, text: &str, out: &mut O) -> Pr
 }
 
 /// Prints what follows the text that shows the plan, which is already printed, writes the state if it changed, and empties the log
-/// unless the state couldn't be written. Returns the status.
+/// unless the state couldn't be written. Returns the status. An error of the system is printed if errors are
+/// explained.
 pub fn end_apply<R: Files + AllocGlobal, S: Sink, O: Write, E: Write>(
     rt: &R,
     place: &Place,
     file: &R::File,
     log: &OpenLog<S>,
+    explains: bool,
     answer: Result<Applied, Refused>,
     printed: Result<(), SaveFault>,
     out: &mut O,
@@ -235,18 +239,21 @@ where
     ensures { (ms : List Meaning) (given : ProgramInput) (before : Option (List ℕ)) (shown : List ℕ) → IsShownPlan ms given shown → IsPrinted (Some printed) shown before (O.contents out.old) → EndsAs ms given answer result before (O.contents out.new) (E.contents err.old) }
 {
     let (status, settled) = keep_result(rt, place, log, answer, printed, out, err);
+    if let Err(Some(cause)) = &settled {
+        print_cause(cause, explains, err);
+    }
     if log.is_lost() {
         print_lost(place.log.as_str(), err);
     }
-    if let Some(why) = settled {
-        let _ = empty_log(file, &why, place, err);
+    if let Ok(why) = settled {
+        let _ = empty_log(file, &why, place, explains, err);
     }
     ExitCode::from(status)
 }
 
 /// Prints what follows the text that shows the plan, which is already printed, and writes the state if it changed. Returns the status,
-/// and why the log isn't needed any more; `None` if the state isn't written, which is status 3. The log of the calls is synced before
-/// the state is written; if it can't be, it is lost.
+/// and why the log isn't needed any more. If the state isn't written, which is status 3, returns the error of the system in its place,
+/// if there is one. The log of the calls is synced before the state is written; if it can't be, it is lost.
 fn keep_result<R: Files + AllocGlobal, S: Sink, O: Write, E: Write>(
     rt: &R,
     place: &Place,
@@ -255,7 +262,7 @@ fn keep_result<R: Files + AllocGlobal, S: Sink, O: Write, E: Write>(
     printed: Result<(), SaveFault>,
     out: &mut O,
     err: &mut E,
-) -> (u8, Option<Settled>)
+) -> (u8, Result<Settled, Option<io::Error>>)
     ensures settled { IsSettled answer result.0 result.1 }
     ensures ends { (ms : List Meaning) (given : ProgramInput) (before : Option (List ℕ)) (shown : List ℕ) → IsShownPlan ms given shown → IsPrinted (Some printed) shown before (O.contents out.old) → EndsApply ms given answer result.0 before (O.contents out.new) (E.contents err.old) (E.contents err.new) }
 {
@@ -263,10 +270,10 @@ fn keep_result<R: Files + AllocGlobal, S: Sink, O: Write, E: Write>(
     let status = show_rest(printed, &answer, out, err);
     match state_to_write(answer) {
         Some(text) => match write_state(rt, place, text, out, err) {
-            Ok(in_place) => (status, Some(Settled::Replaced(in_place))),
-            Err(NotInPlace) => (EXIT_STATE_NOT_WRITTEN, None),
+            Ok(in_place) => (status, Ok(Settled::Replaced(in_place))),
+            Err(NotInPlace { cause }) => (EXIT_STATE_NOT_WRITTEN, Err(Some(cause))),
         },
-        None if status == EXIT_STATE_NOT_WRITTEN => (status, None),
-        None => (status, Some(Settled::UpToDate)),
+        None if status == EXIT_STATE_NOT_WRITTEN => (status, Err(None)),
+        None => (status, Ok(Settled::UpToDate)),
     }
 }

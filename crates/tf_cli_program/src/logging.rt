@@ -10,12 +10,13 @@ ghost use Rattle.tf_cli_program.specs.Recovery.{ContinuesFrom, IsInspected, IsRe
 use crate::recovery_status::{RecoveryStatus, recovery_status};
 use std::alloc::{AllocError, Global};
 use std::fs::OpenFile;
+use std::io;
 use std::io::Write;
 use std::process::ExitCode;
 use std::rt::Files;
 use tf_cli_files::{
     EXIT_STATE_NOT_WRITTEN, LogFile, NotInPlace, Place, ProgramInput, Settled, UnfinishedApply,
-    empty, print_no_log, print_no_memory, sync_folder, write_state,
+    empty, print_cause, print_no_log, print_no_memory, sync_folder, write_state,
 };
 use tf_cli_options::Options;
 use tf_provider::Provider;
@@ -57,10 +58,13 @@ where
         return Err(ask_for_results(place, err));
     }
     match status {
-        RecoveryStatus::After => empty_log(file, &Settled::UpToDate, place, err),
+        RecoveryStatus::After => {
+            empty_log(file, &Settled::UpToDate, place, given.options.explain, err)
+        }
         RecoveryStatus::Before(state) => {
-            let settled = replace_state(rt, place, file, state, out, err)?;
-            empty_log(file, &settled, place, err)?;
+            let explains = given.options.explain;
+            let settled = replace_state(rt, place, file, explains, state, out, err)?;
+            empty_log(file, &settled, place, explains, err)?;
             take_state(given, settled);
             Ok(())
         }
@@ -90,7 +94,7 @@ pub fn ask_for_results<E: Write>(place: &Place, err: &mut E) -> ExitCode
 {
     let _ = writeln!(
         err,
-        "error: {} has calls whose results are not known, so nothing is begun. Find out whether they were made. If none was, run apply with --in-flight retry; otherwise with --in-flight FILE, where FILE has their results",
+        "error: {} has calls whose results are not known, so nothing is begun. Find out whether they were made. If none was, or if it does no harm to make them again, run apply with --in-flight retry; otherwise with --in-flight FILE, where FILE has their results",
         place.log
     );
     ExitCode::from(EXIT_INSPECT)
@@ -124,6 +128,7 @@ fn replace_state<R: Files, O: Write, E: Write>(
     rt: &R,
     place: &Place,
     file: &R::File,
+    explains: bool,
     state: Option<String>,
     out: &mut O,
     err: &mut E,
@@ -136,13 +141,30 @@ where
     let Some(state) = state else {
         return Ok(Settled::UpToDate);
     };
-    if file.sync_data().is_err() {
-        return Err(print_no_log(place.log.as_str(), err));
+    if let Err(cause) = file.sync_data() {
+        return Err(print_log_fault(place, &cause, explains, err));
     }
     match write_state(rt, place, state, out, err) {
         Ok(in_place) => Ok(Settled::Replaced(in_place)),
-        Err(NotInPlace) => Err(ExitCode::from(EXIT_STATE_NOT_WRITTEN)),
+        Err(NotInPlace { cause }) => {
+            print_cause(&cause, explains, err);
+            Err(ExitCode::from(EXIT_STATE_NOT_WRITTEN))
+        }
     }
+}
+
+/// Prints that a log can't be written, and the error of the system if errors are explained. Returns the program's status, 1.
+fn print_log_fault<E: Write>(
+    place: &Place,
+    cause: &io::Error,
+    explains: bool,
+    err: &mut E,
+) -> ExitCode
+    ensures { IsFailure result }
+{
+    let status = print_no_log(place.log.as_str(), err);
+    print_cause(cause, explains, err);
+    status
 }
 
 /// Replaces the given state by the text that is in the state file now, if recovery replaced the file.
@@ -160,13 +182,14 @@ pub fn empty_log<F: LogFile, E: Write>(
     file: &F,
     why: &Settled,
     place: &Place,
+    explains: bool,
     err: &mut E,
 ) -> Result<(), ExitCode>
     ensures { IfErr result IsFailure }
 {
     match empty(file, why) {
         Ok(()) => Ok(()),
-        Err(_) => Err(print_no_log(place.log.as_str(), err)),
+        Err(cause) => Err(print_log_fault(place, &cause, explains, err)),
     }
 }
 
@@ -193,7 +216,7 @@ pub fn start<R: Files + AllocGlobal, S: Sink, E: Write>(
     }
     match sync_folder(rt, place) {
         Ok(()) => Ok(()),
-        Err(_) => Err(print_no_log(place.log.as_str(), err)),
+        Err(cause) => Err(print_log_fault(place, &cause, given.options.explain, err)),
     }
 }
 

@@ -48,8 +48,8 @@ impl<R: Files + Eprint + Drop> LocalFile<R> {
         })
     }
 
-    /// Writes or removes the wanted file, and returns whether that succeeded. Prints on standard error which file the
-    /// disk refused and why, which name is reserved, and which file a destroy kept.
+    /// Writes or removes the wanted file, and returns whether that succeeded. Prints on standard error which file of which
+    /// resource the disk refused and why, which name is reserved, and which file a destroy kept.
     fn is_fulfilled(&self, request: &Request, wanted: &Wanted<'_>) -> bool {
         let address = request.address.as_str();
         match fulfil(self.alloc, &self.rt, &self.reserved, address, wanted) {
@@ -59,11 +59,11 @@ impl<R: Files + Eprint + Drop> LocalFile<R> {
                 true
             }
             Ok(Ending::Reserved) => {
-                let _ = print_reserved(&self.rt, wanted);
+                let _ = print_reserved(&self.rt, address, wanted);
                 false
             }
             Err(error) => {
-                let _ = tell(&self.rt, wanted, &error);
+                let _ = print_error(&self.rt, address, wanted, &error);
                 false
             }
         }
@@ -98,19 +98,30 @@ impl<R: Files + Eprint + Drop> Provider for LocalFile<R> {
     }
 }
 
-/// Reports on standard error which file could not be written or removed, and why.
-fn tell<R: Eprint>(rt: &R, wanted: &Wanted<'_>, error: &io::Error) -> io::Result<()> {
+/// Prints on standard error that the file of the resource at the address can't be written or removed, and why.
+fn print_error<R: Eprint>(
+    rt: &R,
+    address: &str,
+    wanted: &Wanted<'_>,
+    error: &io::Error,
+) -> io::Result<()> {
     match wanted {
-        Wanted::File(file) => eprintln!(rt; "error: cannot write {:?}: {error}", file.name),
-        Wanted::NoFile(file) => eprintln!(rt; "error: cannot remove {:?}: {error}", file.name),
+        Wanted::File(file) => eprintln!(rt;
+            "error: {address}: cannot write {:?}: {error}",
+            file.name
+        ),
+        Wanted::NoFile(file) => eprintln!(rt;
+            "error: {address}: cannot remove {:?}: {error}",
+            file.name
+        ),
     }
 }
 
-/// Prints on standard error that the wanted file isn't written, since it is a file of the program.
-fn print_reserved<R: Eprint>(rt: &R, wanted: &Wanted<'_>) -> io::Result<()> {
+/// Prints on standard error that the file of the resource at the address isn't written, since it is a file of the program.
+fn print_reserved<R: Eprint>(rt: &R, address: &str, wanted: &Wanted<'_>) -> io::Result<()> {
     match wanted {
         Wanted::File(file) => eprintln!(rt;
-            "error: cannot write {:?}: it is a file of this apply",
+            "error: {address}: cannot write {:?}: it is a file of this apply",
             file.name
         ),
         Wanted::NoFile(_) => Ok(()),

@@ -2,7 +2,7 @@
 
 use crate::approving::AtTerminal;
 use crate::carrying::check_pipes;
-use crate::explaining::{end_early, explains, sources, warn};
+use crate::explaining::{end_early, explains, print_log_cause, sources, warn};
 use crate::failures::failure_lines;
 use crate::outside::apply_outside;
 use crate::planning::check_forms;
@@ -43,13 +43,14 @@ use tf_provider_sim::Sim;
 pub fn apply<T: Threads + Wait + Sync, O: Write, E: Write>(
     rt: &HostRuntime,
     threads: &T,
-    options: Options,
+    mut options: Options,
     out: &mut O,
     err: &mut E,
 ) -> io::Result<ExitCode> {
     if let Err(status) = check_forms(&options, err) {
         return Ok(status);
     }
+    options.explain = explains(rt, &options);
     let has_events = options.json;
     let state = options.state.clone()?;
     begin_events(rt, has_events);
@@ -68,7 +69,7 @@ fn apply_given<T: Threads + Wait + Sync, O: Write, E: Write>(
     out: &mut O,
     err: &mut E,
 ) -> io::Result<ExitCode> {
-    let is_explained = explains(rt, &options);
+    let is_explained = options.explain;
     match prepare(rt, options, out, err)? {
         Ok(prepared) => apply_prepared(rt, threads, prepared, out, err),
         Err(ending) => Ok(end_early(ending, is_explained, err)),
@@ -208,7 +209,7 @@ fn apply_by<T: Threads + Wait + Sync, O: Write, E: Write>(
 }
 
 /// A provider whose calls are logged, counted and printed.
-type Watched<P> = Progress<Logged<Stopping<P>, LogSink<File>>, Stderr, HostRuntime>;
+type Watched<P> = Progress<Stopping<Logged<P, LogSink<File>>>, Stderr, HostRuntime>;
 
 /// The providers of an apply.
 struct WatchedProviders {
@@ -258,8 +259,8 @@ fn carry_out_by<T: Threads + Wait + Sync, O: Write, E: Write>(
 ) -> ExitCode {
     let files = sources(given, place, providers);
     warn(rt, given, files, err);
-    let mut err = Explained::new(rt.alloc(), err, explains(rt, &given.options), files);
-    carry_out_logged(
+    let mut err = Explained::new(rt.alloc(), err, given.options.explain, files);
+    let status = carry_out_logged(
         rt,
         threads,
         place,
@@ -271,7 +272,9 @@ fn carry_out_by<T: Threads + Wait + Sync, O: Write, E: Write>(
         &AtTerminal::new(rt, given),
         out,
         &mut err,
-    )
+    );
+    print_log_cause(control, given, &mut err);
+    status
 }
 
 /// Wraps a provider so that its calls are printed on standard error, if that is a terminal or `--progress` is given. A terminal

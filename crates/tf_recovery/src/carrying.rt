@@ -86,6 +86,7 @@ pub(crate) fn finish<O: Write, E: Write>(
     place: &Place,
     file: &File,
     log: &ApplyLog,
+    given: &ProgramInput,
     session: &Session,
     answer: Result<Applied, Refused>,
     printed: Result<(), SaveFault>,
@@ -95,7 +96,8 @@ pub(crate) fn finish<O: Write, E: Write>(
     let _ = log.sync();
     if session.flights.is_empty() || log.is_lost() {
         print_flights(rt, session, err);
-        return end_apply(rt, place, file, log, answer, printed, out, err);
+        let explains = given.options.explain;
+        return end_apply(rt, place, file, log, explains, answer, printed, out, err);
     }
     let _ = show_rest(printed, &answer, out, err);
     drop(state_to_write(answer));

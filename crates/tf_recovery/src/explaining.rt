@@ -1,9 +1,10 @@
 //! Explained errors.
 
+use std::fs::File;
 use std::io;
 use std::io::{IsTerminal, Write};
 use std::process::ExitCode;
-use tf_cli_files::{Ending, Place, ProgramInput, print_unread};
+use tf_cli_files::{CallControl, Ending, Place, ProgramInput, print_cause, print_unread};
 use tf_cli_options::Options;
 use tf_explain::{SourceFile, Sources, warnings};
 use tf_provider::Provider;
@@ -16,13 +17,10 @@ pub(crate) fn explains(rt: &HostRuntime, options: &Options) -> bool {
 /// Returns the status of a program that ends before its work. If errors are explained, prints the error of the system below the
 /// program's.
 pub(crate) fn end_early<E: Write>(ending: Ending, explains: bool, err: &mut E) -> ExitCode {
-    let Ending { status, cause } = ending;
-    if let Some(cause) = cause
-        && explains
-    {
-        let _ = writeln!(err, "  {cause}");
+    if let Some(cause) = &ending.cause {
+        print_cause(cause, explains, err);
     }
-    status
+    ending.status
 }
 
 /// Prints that a file can't be read, and returns the program's end, with the error of the system.
@@ -30,6 +28,17 @@ pub(crate) fn unread<E: Write>(name: &str, error: io::Error, err: &mut E) -> End
     Ending {
         status: print_unread(name, err),
         cause: Some(error),
+    }
+}
+
+/// Prints the error of the system because of which the log of an apply can't be written, if there is one and errors are explained.
+pub(crate) fn print_log_cause<E: Write>(
+    control: &CallControl<File>,
+    given: &ProgramInput,
+    err: &mut E,
+) {
+    if let Some(cause) = control.log_cause() {
+        print_cause(&cause, given.options.explain, err);
     }
 }
 
@@ -57,7 +66,7 @@ pub(crate) fn warn<E: Write>(
     files: Sources<'_>,
     err: &mut E,
 ) {
-    if explains(rt, &given.options) {
+    if given.options.explain {
         if let Ok(text) = warnings(rt.alloc(), rt, files) {
             let _ = err.write_all(text.as_bytes());
         }

@@ -6,7 +6,7 @@ ghost use Rattle.tf_recovery.specs.Outside.{outside_meanings};
 ghost use Rattle.tf_walk_action.specs.Words.{plan_of};
 
 use crate::carrying::{carried_out, finish, open_pipes};
-use crate::explaining::{explains, sources, warn};
+use crate::explaining::{print_log_cause, sources, warn};
 use crate::printing::{PrintedPlan, approved_plan};
 use crate::reporting::call_events;
 use crate::session::{ApplyLog, Session};
@@ -50,8 +50,8 @@ pub(crate) fn apply_outside<T: Wait, O: Write, E: Write>(
     let log_file: &File = &file;
     let files = sources(given, place, providers.as_slice());
     warn(rt, given, files, err);
-    let mut err = Explained::new(alloc, err, explains(rt, &given.options), files);
-    carry_out_approved(
+    let mut err = Explained::new(alloc, err, given.options.explain, files);
+    let status = carry_out_approved(
         rt,
         threads,
         &types,
@@ -62,7 +62,9 @@ pub(crate) fn apply_outside<T: Wait, O: Write, E: Write>(
         &providers,
         out,
         &mut err,
-    )
+    );
+    print_log_cause(&control, given, &mut err);
+    status
 }
 
 /// Prints the plan, asks for approval, and carries the plan out.
@@ -131,5 +133,7 @@ fn carry_out_outside<T: Wait, O: Write, E: Write>(
         &mut session,
         err,
     )?;
-    Ok(finish(rt, place, file, log, &session, answer, printed, out, err))
+    Ok(finish(
+        rt, place, file, log, given, &session, answer, printed, out, err,
+    ))
 }

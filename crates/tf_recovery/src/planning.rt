@@ -22,14 +22,15 @@ use tf_provider_sim::Sim;
 /// Fails only if memory runs out.
 pub fn plan<O: Write, E: Write>(
     rt: &HostRuntime,
-    options: Options,
+    mut options: Options,
     out: &mut O,
     err: &mut E,
 ) -> io::Result<ExitCode> {
     if let Err(status) = check_forms(&options, err) {
         return Ok(status);
     }
-    let is_explained = explains(rt, &options);
+    options.explain = explains(rt, &options);
+    let is_explained = options.explain;
     let types = match read_types(rt, &options.providers, err) {
         Ok(types) => types,
         Err(ending) => return Ok(end_early(ending, is_explained, err)),
@@ -86,7 +87,7 @@ fn print_given<O: Write, E: Write>(
 ) -> ExitCode {
     let files = sources(given, place, providers);
     warn(rt, given, files, err);
-    let mut err = Explained::new(rt.alloc(), err, explains(rt, &given.options), files);
+    let mut err = Explained::new(rt.alloc(), err, given.options.explain, files);
     let status = print_plan(rt.alloc(), given, colours(rt), providers, out, &mut err);
     ExitCode::from(status)
 }
