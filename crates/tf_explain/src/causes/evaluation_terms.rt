@@ -41,6 +41,9 @@ fn is_step(term: &Term) -> bool {
 
 /// Explains an attribute or an element that doesn't exist. Returns whether it did.
 fn missing_step(page: &mut Page, used: Used<'_, '_>) -> Result<bool, AllocError> {
+    if instances_mistaken(page, used)? {
+        return Ok(true);
+    }
     match used.term {
         Term::Attribute(inner, name) => missing_attribute(page, used, &**inner, name.as_str()),
         Term::Index(inner, place) => missing_element(page, used, &**inner, &**place),
