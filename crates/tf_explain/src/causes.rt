@@ -4,14 +4,17 @@ mod arguments;
 mod cycle;
 mod evaluation;
 mod evaluation_terms;
+mod instances;
 mod json;
 mod names;
+mod operands;
 mod others;
 mod shape;
 mod shape_bodies;
 mod template;
 mod terms;
 mod used;
+mod values;
 
 use crate::causes::arguments::explain_argument;
 use crate::causes::cycle::{

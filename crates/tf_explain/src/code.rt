@@ -1,5 +1,6 @@
 //! Places in the expressions of a template, as JSON spells it.
 
+use crate::positions::is_space;
 use crate::span::{Span, byte_at, bytes_in, is_name_byte};
 
 /// Returns where a part of an expression is, such as a name, in the expressions of a template. The template is a JSON text, whose
@@ -27,6 +28,76 @@ pub(crate) fn find_in_code(
         reader = reader.next(text);
     }
     None
+}
+
+/// Returns where a list is in the expressions of a template, behind the given number of earlier ones.
+pub(crate) fn list_in_code(text: &[u8], template: Span, skipped: usize) -> Option<Span> {
+    let mut left = skipped;
+    let mut before = 0u8;
+    let mut reader = Reader::new(template);
+    for _ in template.start..template.end {
+        let byte = byte_at(text, reader.at);
+        let may_be_index = is_name_byte(before) || before == b')' || before == b']';
+        if reader.is_in_code() && byte == b'[' && !may_be_index {
+            if left == 0 {
+                return Some(Span {
+                    start: reader.at,
+                    end: bracket_end(text, template, reader),
+                });
+            }
+            left = left.saturating_sub(1);
+        }
+        if !is_space(byte) {
+            before = byte;
+        }
+        reader = reader.next(text);
+    }
+    None
+}
+
+/// Returns the position after the bracket that closes the one at a position.
+fn bracket_end(text: &[u8], template: Span, first: Reader) -> usize {
+    let mut depth = 0usize;
+    let mut reader = first;
+    for _ in first.at..template.end {
+        if reader.open == first.open && byte_at(text, reader.at) == b'[' {
+            depth = depth.saturating_add(1);
+        }
+        if reader.open == first.open && byte_at(text, reader.at) == b']' {
+            depth = depth.saturating_sub(1);
+            if depth == 0 {
+                return reader.at.saturating_add(1);
+            }
+        }
+        reader = reader.next(text);
+    }
+    template.end
+}
+
+/// Returns where the quote is that opens the last text in the expressions of a template, if that text isn't closed.
+pub(crate) fn open_quote(text: &[u8], template: Span) -> Option<Span> {
+    let mut end = Reader::new(template);
+    for _ in template.start..template.end {
+        if end.at < template.end {
+            end = end.next(text);
+        }
+    }
+    if end.is_in_code() {
+        return None;
+    }
+    let mut quote = None;
+    let mut reader = Reader::new(template);
+    for _ in template.start..template.end {
+        let next = reader.next(text);
+        if next.at <= template.end && next.open == end.open && reader.open < next.open {
+            quote = Some(Span {
+                start: reader.at,
+                end: next.at,
+            });
+        }
+        reader = next;
+    }
+    quote
 }
 
 /// Returns whether these bytes are in a range, and no name continues before or after them.

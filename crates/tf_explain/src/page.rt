@@ -12,6 +12,12 @@ use std::alloc::{AllocError, Global};
 /// The most excerpts in one explanation.
 const MOST_EXCERPTS: usize = 10;
 
+/// The most names in one sentence.
+const MOST_NAMES: usize = 5;
+
+/// The most bytes of files that are looked through for one explanation.
+const MOST_READ: usize = 33_554_432;
+
 /// The text of an explanation: indented lines.
 #[derive(Drop)]
 pub(crate) struct Page {
@@ -20,6 +26,8 @@ pub(crate) struct Page {
     /// Its lines.
     pub(crate) text: String,
     excerpts: usize,
+    /// How many bytes of files were looked through.
+    read: usize,
 }
 
 impl Page {
@@ -29,6 +37,7 @@ impl Page {
             alloc,
             text: String::new(alloc),
             excerpts: 0,
+            read: 0,
         }
     }
 
@@ -38,8 +47,15 @@ impl Page {
             alloc: _,
             text,
             excerpts: _,
+            read: _,
         } = self;
         text
+    }
+
+    /// Returns whether a file of this length may be looked through once more, and counts it.
+    pub(crate) fn may_read(&mut self, length: usize) -> bool {
+        self.read = self.read.saturating_add(length);
+        self.read <= MOST_READ
     }
 
     /// Adds a place in a file: its line, with marks under it. A page has at most ten of them.
@@ -153,6 +169,24 @@ impl Page {
         let mut nearest = Nearest::to(self.alloc, wanted);
         nearest.consider_all(names)?;
         self.suggest(parts, &nearest)
+    }
+
+    /// Adds a sentence that ends with some names, before their place: the first five, and how many more there are.
+    ///
+    /// # Errors
+    ///
+    /// Fails only if memory runs out.
+    pub(crate) fn say_names(&mut self, before: &str, names: &[String]) -> Result<(), AllocError> {
+        self.push_parts(&["  ", before])?;
+        for (number, name) in names.iter().take(MOST_NAMES).enumerate() {
+            let begin = if number == 0 { " `" } else { ", `" };
+            self.push_parts(&[begin, name.as_str(), "`"])?;
+        }
+        let more = names.len().saturating_sub(MOST_NAMES);
+        if more > 0 {
+            write!(self.text, " and {more} more")?;
+        }
+        self.end_line(&[":"])
     }
 
     /// Adds the last parts of a line, and its end.

@@ -31,6 +31,8 @@ pub enum ObjectKind {
 pub struct Repeated {
     /// What its object has.
     pub kind: ObjectKind,
+    /// Where the name of its object is, with its quotes. The top object has none.
+    pub object: Option<Span>,
     /// Where the last property's name is, with its quotes. That property counts.
     pub last: Span,
     /// The names of the others, in their order.
@@ -45,6 +47,8 @@ struct Name {
     hash: u64,
     span: Span,
     kind: ObjectKind,
+    /// The name of its object.
+    outer: Option<Span>,
 }
 
 /// An array or an object that isn't closed yet.
@@ -55,6 +59,10 @@ struct Open {
     kind: ObjectKind,
     /// What an object that is its next value has.
     next: ObjectKind,
+    /// The name of an object.
+    name: Option<Span>,
+    /// The last name in an object.
+    last: Option<Span>,
     /// Whether the next text is a name.
     is_at_name: bool,
 }
@@ -84,7 +92,35 @@ pub fn repeated_properties(alloc: Global, text: &[u8]) -> Result<Vec<Repeated>, 
         objects: 0,
     };
     scan.read()?;
-    let mut names = scan.into_names();
+    groups_of(alloc, text, scan.into_names())
+}
+
+/// Returns the texts of a file that are alike, by the places of the last ones, of texts at some places.
+///
+/// # Errors
+///
+/// Fails only if memory runs out.
+pub(crate) fn repeated_texts(
+    alloc: Global,
+    text: &[u8],
+    spans: &[Span],
+) -> Result<Vec<Repeated>, AllocError> {
+    let mut names = Vec::with_capacity(alloc, spans.len())?;
+    for span in spans {
+        names.push(Name {
+            object: 0,
+            hash: hash_of(alloc, bytes_in(text, between_quotes(text, *span)))?,
+            span: *span,
+            kind: ObjectKind::Other,
+            outer: None,
+        })?;
+    }
+    groups_of(alloc, text, names)
+}
+
+/// Returns the groups of names that are alike and in one object, by the places of the last ones.
+fn groups_of(alloc: Global, text: &[u8], names: Vec<Name>) -> Result<Vec<Repeated>, AllocError> {
+    let mut names = names;
     names.sort_unstable_by_key(|name| (name.object, name.hash, name.span.start));
     let mut found: Vec<Repeated> = Vec::new(alloc);
     add_groups(alloc, &mut found, text, names.as_slice())?;
@@ -148,9 +184,9 @@ impl Scan<'_> {
 
     /// Begins an object or an array.
     fn begin(&mut self, is_object: bool) -> Result<(), AllocError> {
-        let kind = match self.open.last() {
-            Some(outer) => outer.next,
-            None => ObjectKind::Top,
+        let (kind, name) = match self.open.last() {
+            Some(outer) => (outer.next, outer.last),
+            None => (ObjectKind::Top, None),
         };
         let object = if is_object { Some(self.objects) } else { None };
         self.objects = self.objects.saturating_add(1);
@@ -158,6 +194,8 @@ impl Scan<'_> {
             object,
             kind: if is_object { kind } else { ObjectKind::Other },
             next: ObjectKind::Other,
+            name,
+            last: None,
             is_at_name: is_object,
         })?;
         Ok(())
@@ -175,8 +213,9 @@ impl Scan<'_> {
         if !innermost.is_at_name {
             return Ok(());
         }
-        let kind = innermost.kind;
+        let (kind, outer) = (innermost.kind, innermost.name);
         innermost.next = kind_below(kind, raw);
+        innermost.last = Some(span);
         if raw == b"//".as_slice() {
             return Ok(());
         }
@@ -186,6 +225,7 @@ impl Scan<'_> {
             hash,
             span,
             kind,
+            outer,
         })?;
         Ok(())
     }
@@ -262,6 +302,7 @@ fn add(
     if !is_open {
         found.push(Repeated {
             kind: name.kind,
+            object: name.outer,
             last: name.span,
             others: Vec::new(alloc),
         })?;

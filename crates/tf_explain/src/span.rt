@@ -81,3 +81,10 @@ pub(crate) fn find_bytes(text: &[u8], within: Span, wanted: &str) -> Option<Span
     }
     None
 }
+
+/// Returns whether a text of JSON is in a range, and begins no interpolation and no directive.
+pub(crate) fn is_literal(text: &[u8], span: Span) -> bool {
+    byte_at(text, span.start) == b'"'
+        && find_bytes(text, span, "${").is_none()
+        && find_bytes(text, span, "%{").is_none()
+}

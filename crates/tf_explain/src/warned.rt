@@ -1,13 +1,14 @@
 //! Warnings on what is likely to be a mistake, although nothing is refused.
 
-use crate::blocks::{add_declared, section};
+use crate::blocks::{add_declared, block_has, resource_type, section};
 use crate::decoding::text_in;
 use crate::json_fault::json_fault;
 use crate::near::Nearest;
 use crate::page::Page;
 use crate::positions::{Member, is_comment, member_named, members, name_of, top};
-use crate::repeated::{ObjectKind, Repeated, repeated_properties};
+use crate::repeated::{ObjectKind, Repeated, repeated_properties, repeated_texts};
 use crate::sources::{SourceFile, Sources};
+use crate::span::{Span, is_literal};
 use std::alloc::{AllocError, Global};
 use std::env::{Env, FillError};
 
@@ -17,8 +18,8 @@ const MOST_WARNINGS: usize = 10;
 /// The most variables that are looked up in the environment, and the most names that are compared for a suggestion.
 const MOST_NAMES: usize = 2_000;
 
-/// Returns warnings on the files that a program read, and on its environment: a property that an object has twice; a name in the
-/// variables file that isn't declared; a variable without a value in that file for which the environment has one, which isn't read.
+/// Returns warnings on the files that a program read, and on its environment: a property that an object has twice; a file that
+/// several blocks write; a name in the variables file that isn't declared; a variable without a value in that file for which the environment has one, which isn't read.
 /// Each is a line, and indented lines that show the place. A file that isn't JSON has none.
 ///
 /// # Errors
@@ -36,6 +37,7 @@ fn warn<R: Env>(page: &mut Page, rt: &R, sources: Sources<'_>) -> Result<(), All
         return Ok(());
     }
     warn_repeated(page, sources.config, true)?;
+    warn_files(page, sources.config)?;
     let vars = match sources.vars {
         Some(vars) if json_fault(page.alloc, vars.bytes)?.is_none() => Some(vars),
         _ => None,
@@ -65,8 +67,13 @@ fn warn_groups(
     found: &[Repeated],
 ) -> Result<(), AllocError> {
     for group in found.iter().take(MOST_WARNINGS) {
-        let name = text_in(page.alloc, file.bytes, group.last)?;
-        warn_group(page, file, is_configuration, group, name.as_str())?;
+        let kind = if is_configuration {
+            group.kind
+        } else {
+            ObjectKind::Other
+        };
+        let name = name_in(page.alloc, file.bytes, kind, group)?;
+        warn_group(page, file, kind, group, name.as_str())?;
     }
     let more = found.len().saturating_sub(MOST_WARNINGS);
     if more > 0 {
@@ -78,19 +85,33 @@ fn warn_groups(
     Ok(())
 }
 
+/// Returns the name of a property that is written twice. The name of a resource begins with its type.
+fn name_in(
+    alloc: Global,
+    text: &[u8],
+    kind: ObjectKind,
+    group: &Repeated,
+) -> Result<String, AllocError> {
+    let name = text_in(alloc, text, group.last)?;
+    match group.object {
+        Some(object) if kind == ObjectKind::Resources => {
+            let mut address = text_in(alloc, text, object)?;
+            address.push('.')?;
+            address.push_str(name.as_str())?;
+            Ok(address)
+        }
+        _ => Ok(name),
+    }
+}
+
 /// Warns of a property that an object has twice.
 fn warn_group(
     page: &mut Page,
     file: SourceFile<'_>,
-    is_configuration: bool,
+    kind: ObjectKind,
     group: &Repeated,
     name: &str,
 ) -> Result<(), AllocError> {
-    let kind = if is_configuration {
-        group.kind
-    } else {
-        ObjectKind::Other
-    };
     page.warn(&["`", name, "` is written twice in one object"])?;
     page.show(file, group.last)?;
     page.say(&[if group.others.len() > 1 {
@@ -119,6 +140,58 @@ fn consequence(kind: ObjectKind, name: &str) -> &'static str {
 
 const RESOURCES_LOST: &str =
     "The resources in the earlier one aren't declared: a plan destroys those that exist. Write one property with all of them.";
+
+/// Warns of each file that several blocks of the type `local_file` write.
+fn warn_files(page: &mut Page, config: SourceFile<'_>) -> Result<(), AllocError> {
+    let Some(files) = resource_type(config.bytes, "local_file") else {
+        return Ok(());
+    };
+    let mut names: Vec<Span> = Vec::new(page.alloc);
+    for block in &members(page.alloc, config.bytes, files.value)? {
+        if let Some(name) = filename_in(config.bytes, *block) {
+            names.push(name)?;
+        }
+    }
+    let found = repeated_texts(page.alloc, config.bytes, names.as_slice())?;
+    for group in found.iter().take(MOST_WARNINGS) {
+        warn_file(page, config, group)?;
+    }
+    let more = found.len().saturating_sub(MOST_WARNINGS);
+    if more > 0 {
+        return page.count(
+            "warning: files of several blocks that are not shown: ",
+            more,
+        );
+    }
+    Ok(())
+}
+
+/// Returns where the `filename` of a block is, if it is literal and the block has one instance.
+fn filename_in(text: &[u8], block: Member) -> Option<Span> {
+    if is_comment(text, block)
+        || block_has(text, block, "count")
+        || block_has(text, block, "for_each")
+    {
+        return None;
+    }
+    let name = member_named(text, block.value, "filename")?;
+    if is_literal(text, name.value) {
+        Some(name.value)
+    } else {
+        None
+    }
+}
+
+/// Warns of a file that several blocks write.
+fn warn_file(page: &mut Page, config: SourceFile<'_>, group: &Repeated) -> Result<(), AllocError> {
+    let name = text_in(page.alloc, config.bytes, group.last)?;
+    page.warn(&["`", name.as_str(), "` is the `filename` of several blocks"])?;
+    for other in &group.others {
+        page.show(config, *other)?;
+    }
+    page.show(config, group.last)?;
+    page.say(&["Each of them writes this file, and replaces what another one wrote."])
+}
 
 /// Warns of each name in a variables file that the configuration doesn't declare.
 fn warn_undeclared(

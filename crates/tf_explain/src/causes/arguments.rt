@@ -1,7 +1,8 @@
 //! Arguments that don't fit the schema of their type, and values of variables.
 
 use crate::blocks::{add_declared, add_names, block, declaration, lifecycle_setting, read_address};
-use crate::causes::evaluation_terms::{say_attribute, value_of_variable};
+use crate::causes::evaluation_terms::say_attribute;
+use crate::causes::values::value_of_variable;
 use crate::decoding::{is_text, text_in};
 use crate::near::Nearest;
 use crate::page::Page;

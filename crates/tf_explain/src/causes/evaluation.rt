@@ -47,7 +47,7 @@ pub(crate) fn explain_evaluation(
     }
     page.show(sources.config, span)?;
     let mut spans: Vec<Span> = Vec::new(page.alloc);
-    add_expressions(page.alloc, &mut spans, span, sources)?;
+    add_expressions(page, &mut spans, span, sources)?;
     explain_locals(page, spans.get(1..).unwrap_or(&[]), kind, sources)
 }
 
@@ -142,7 +142,7 @@ fn next_text(text: &[u8], from: usize, within: Span) -> Option<Span> {
 
 /// Adds where an expression is, and the locals to which it leads.
 fn add_expressions(
-    alloc: Global,
+    page: &mut Page,
     spans: &mut Vec<Span>,
     first: Span,
     sources: Sources<'_>,
@@ -152,14 +152,14 @@ fn add_expressions(
         let Some(span) = spans.get(number).copied() else {
             break;
         };
-        add_locals_in(alloc, spans, span, sources)?;
+        add_locals_in(page, spans, span, sources)?;
     }
     Ok(())
 }
 
 /// Adds where the locals are to which the texts of an expression refer, if they aren't there yet.
 fn add_locals_in(
-    alloc: Global,
+    page: &mut Page,
     spans: &mut Vec<Span>,
     expression: Span,
     sources: Sources<'_>,
@@ -170,22 +170,22 @@ fn add_locals_in(
             break;
         };
         at = text.end;
-        add_locals(alloc, spans, text, sources)?;
+        add_locals(page, spans, text, sources)?;
     }
     Ok(())
 }
 
 /// Adds where the locals are to which a text refers, if they aren't there yet.
 fn add_locals(
-    alloc: Global,
+    page: &mut Page,
     spans: &mut Vec<Span>,
     text: Span,
     sources: Sources<'_>,
 ) -> Result<(), AllocError> {
-    match template_at(alloc, text, sources.config.bytes)? {
+    match template_at(page.alloc, text, sources.config.bytes)? {
         Some(template) => {
-            let names = names_of(alloc, &template)?;
-            add_references(spans, &names, sources.config.bytes)
+            let names = names_of(page.alloc, &template)?;
+            add_references(page, spans, &names, sources.config.bytes)
         }
         None => Ok(()),
     }
@@ -193,11 +193,15 @@ fn add_locals(
 
 /// Adds where the locals are to which references refer, if they aren't there yet.
 fn add_references(
+    page: &mut Page,
     spans: &mut Vec<Span>,
     names: &Names<'_>,
     config: &[u8],
 ) -> Result<(), AllocError> {
     for reference in &names.references {
+        if !page.may_read(config.len()) {
+            break;
+        }
         let Some(local) = local_of(*reference, config) else {
             continue;
         };
@@ -217,12 +221,28 @@ fn local_of(reference: &Reference, config: &[u8]) -> Option<Member> {
 }
 
 /// Returns the template of a text in the configuration, if it has an interpolation.
-fn template_at(alloc: Global, text: Span, config: &[u8]) -> Result<Option<Template>, AllocError> {
+///
+/// # Errors
+///
+/// Fails only if memory runs out.
+pub(crate) fn template_at(
+    alloc: Global,
+    text: Span,
+    config: &[u8],
+) -> Result<Option<Template>, AllocError> {
     if !bytes_in(config, text).contains(&b'{') {
         return Ok(None);
     }
     let decoded = text_in(alloc, config, text)?;
     Ok(read_template(alloc, decoded.as_str()).ok())
+}
+
+/// Returns whether a template is only one interpolation, or only text.
+pub(crate) fn is_alone(template: &Template) -> bool {
+    match template.parts.first() {
+        Some(part) => { template.parts.len() == 1 && part.0.is_empty() && template.last.is_empty() }
+        None => true,
+    }
 }
 
 /// Explains a fault in a text. Returns whether it found one.

@@ -1,15 +1,19 @@
 //! Which part of an expression has no value.
 
-use crate::blocks::{block, block_has, consider_members, declaration};
-use crate::causes::evaluation::ReadText;
-use crate::causes::used::{Used, address_of, after_first_byte, shrunk};
+use crate::blocks::{block, block_has, consider_members};
+use crate::causes::evaluation::{ReadText, is_alone};
+use crate::causes::instances::{missing_counted, missing_keyed};
+use crate::causes::operands::explain_operands;
+use crate::causes::used::{Used, address_of};
+use crate::causes::values::{LIST, MAP, NULL, NUMBER, TEXT, at_key, kind_at, number_at, value_of};
+use crate::decoding::text_in;
 use crate::near::Nearest;
 use crate::page::Page;
-use crate::positions::{Member, is_comment, items, member_named, top};
+use crate::positions::{Member, items};
 use crate::sources::{SourceFile, Sources};
 use crate::span::{Span, byte_at};
 use std::alloc::AllocError;
-use tf_expr_syntax::{Function, Operator, Reference, Template, Term};
+use tf_expr_syntax::{Function, Operator, Prefix, Reference, Template, Term};
 use tf_provider_protocol::{Schema, schema_for};
 
 /// Explains an attribute, an index or a key that doesn't exist. Returns whether it found one.
@@ -19,16 +23,32 @@ use tf_provider_protocol::{Schema, schema_for};
 /// Fails only if memory runs out.
 pub(crate) fn explain_missing(page: &mut Page, text: ReadText<'_, '_>) -> Result<bool, AllocError> {
     let mut is_found = false;
+    let length = text.sources.config.bytes.len();
     for (number, term) in text.terms.iter().enumerate() {
-        let used = Used { text, number };
-        let is_explained = match *term {
-            Term::Attribute(inner, name) => missing_attribute(page, used, &**inner, name.as_str())?,
-            Term::Index(inner, place) => missing_element(page, used, &**inner, &**place)?,
-            _ => false,
-        };
-        is_found = is_found || is_explained;
+        let term = *term;
+        if is_step(term) && page.may_read(length) {
+            let used = Used { text, number, term };
+            is_found = missing_step(page, used)? || is_found;
+        }
     }
     Ok(is_found)
+}
+
+/// Returns whether a part is an attribute or an element.
+fn is_step(term: &Term) -> bool {
+    matches!(term, Term::Attribute(_, _) | Term::Index(_, _))
+}
+
+/// Explains an attribute or an element that doesn't exist. Returns whether it did.
+fn missing_step(page: &mut Page, used: Used<'_, '_>) -> Result<bool, AllocError> {
+    if instances_mistaken(page, used)? {
+        return Ok(true);
+    }
+    match used.term {
+        Term::Attribute(inner, name) => missing_attribute(page, used, &**inner, name.as_str()),
+        Term::Index(inner, place) => missing_element(page, used, &**inner, &**place),
+        _ => Ok(false),
+    }
 }
 
 /// Returns the reference of which a part is an attribute or an element.
@@ -50,13 +70,10 @@ fn missing_attribute<'a>(
     inner: &'a Term,
     name: &'a str,
 ) -> Result<bool, AllocError> {
-    let Some(reference) = base_of(inner) else {
-        return Ok(false);
-    };
-    let type_name = reference.first.as_str();
+    let type_name = base_of(inner).map_or("", |reference| reference.first.as_str());
     match schema_for(used.text.sources.providers, type_name) {
         Some(schema) if schema.attribute(name).is_none() => {
-            show_attribute(page, used, reference, name)?;
+            used.show_step(page)?;
             say_attribute(page, type_name, name, schema)?;
             Ok(true)
         }
@@ -86,18 +103,6 @@ pub(crate) fn say_attribute<'a>(
     )
 }
 
-/// Shows an attribute's name in a text after its dot, or all of the text.
-fn show_attribute(
-    page: &mut Page,
-    used: Used<'_, '_>,
-    reference: &Reference,
-    name: &str,
-) -> Result<(), AllocError> {
-    let wanted = format!(in page.alloc; ".{name}")?;
-    let found = used.after(page, reference, wanted.as_str())?;
-    used.show(page, found)
-}
-
 /// Explains an index beyond a list, or a key that a map doesn't have.
 fn missing_element<'a>(
     page: &mut Page,
@@ -110,40 +115,58 @@ fn missing_element<'a>(
         Term::Quoted(template) if template.parts.is_empty() => {
             missing_key(page, used, inner, template.last.as_str())
         }
+        Term::Unary(Prefix::Negate, number) => match &**number {
+            Term::Number(number) if *number > 0 => explain_negative(page, used),
+            _ => Ok(false),
+        },
+        _ => missing_referred(page, used, inner, place),
+    }
+}
+
+/// Explains an index below 0.
+fn explain_negative(page: &mut Page, used: Used<'_, '_>) -> Result<bool, AllocError> {
+    used.show_step(page)?;
+    page.say(&["An index is 0 or more: it isn't counted from the end of the list."])?;
+    Ok(true)
+}
+
+/// Explains an index or a key that doesn't exist and is the value of a variable or a local.
+fn missing_referred(
+    page: &mut Page,
+    used: Used<'_, '_>,
+    inner: &Term,
+    place: &Term,
+) -> Result<bool, AllocError> {
+    let Some((file, span)) = value_of(page.alloc, place, used.text.sources)? else {
+        return Ok(false);
+    };
+    let is_missing = missing_value(page, used, inner, file, span)?;
+    if is_missing {
+        page.say(&["The value between the brackets is here:"])?;
+        page.show(file, span)?;
+    }
+    Ok(is_missing)
+}
+
+/// Explains an index or a key that doesn't exist and is in a range of a file.
+fn missing_value(
+    page: &mut Page,
+    used: Used<'_, '_>,
+    inner: &Term,
+    file: SourceFile<'_>,
+    span: Span,
+) -> Result<bool, AllocError> {
+    match kind_at(file.bytes, span) {
+        Some(TEXT) => {
+            let key = text_in(page.alloc, file.bytes, span)?;
+            missing_key(page, used, inner, key.as_str())
+        }
+        Some(NUMBER) => match number_at(file.bytes, span) {
+            Some(index) => missing_index(page, used, inner, index),
+            None => explain_negative(page, used),
+        },
         _ => Ok(false),
     }
-}
-
-/// Returns the value that a variable or a local has as JSON: its file and its range.
-fn value_of<'a>(term: &Term, sources: Sources<'a>) -> Option<(SourceFile<'a>, Span)> {
-    let Term::Reference(reference) = term else {
-        return None;
-    };
-    let name = reference.name.as_str();
-    match reference.first.as_str() {
-        "local" => {
-            let local = declaration(sources.config.bytes, "locals", name)?;
-            Some((sources.config, local.value))
-        }
-        "var" => value_of_variable(name, sources),
-        _ => None,
-    }
-}
-
-/// Returns the value of a variable as JSON, in the variables file or else as its default: its file and its range.
-pub(crate) fn value_of_variable<'a>(
-    name: &str,
-    sources: Sources<'a>,
-) -> Option<(SourceFile<'a>, Span)> {
-    if let Some(vars) = sources.vars {
-        if let Some(given) = member_named(vars.bytes, top(vars.bytes), name) {
-            return Some((vars, given.value));
-        }
-    }
-    let config = sources.config;
-    let variable = declaration(config.bytes, "variable", name)?;
-    let default = member_named(config.bytes, variable.value, "default")?;
-    Some((config, default.value))
 }
 
 /// Explains an index beyond a list that is written out.
@@ -153,8 +176,8 @@ fn missing_index(
     inner: &Term,
     index: u64,
 ) -> Result<bool, AllocError> {
-    let Some((file, span)) = value_of(inner, used.text.sources) else {
-        return Ok(false);
+    let Some((file, span)) = value_of(page.alloc, inner, used.text.sources)? else {
+        return missing_counted(page, used, inner, index);
     };
     if byte_at(file.bytes, span.start) != b'[' {
         return Ok(false);
@@ -163,25 +186,10 @@ fn missing_index(
     if index < count {
         return Ok(false);
     }
-    show_index(page, used, inner, index)?;
+    used.show_step(page)?;
     say_index(page, count, index)?;
     page.show(file, span)?;
     Ok(true)
-}
-
-/// Shows an index in a text, or all of it.
-fn show_index(
-    page: &mut Page,
-    used: Used<'_, '_>,
-    inner: &Term,
-    index: u64,
-) -> Result<(), AllocError> {
-    let Some(reference) = base_of(inner) else {
-        return used.show(page, None);
-    };
-    let wanted = format!(in page.alloc; "[{index}]")?;
-    let found = used.after(page, reference, wanted.as_str())?;
-    used.show(page, found)
 }
 
 /// Says that a list has too few elements for an index.
@@ -200,44 +208,17 @@ fn missing_key(
     inner: &Term,
     key: &str,
 ) -> Result<bool, AllocError> {
-    let Some((file, map)) = value_of(inner, used.text.sources) else {
-        return Ok(false);
+    let Some((file, map)) = value_of(page.alloc, inner, used.text.sources)? else {
+        return missing_keyed(page, used, inner, key);
     };
     let is_map = byte_at(file.bytes, map.start) == b'{';
-    if !is_map || has_key(file.bytes, map, key) {
+    if !is_map || at_key(file, map, key).is_some() {
         return Ok(false);
     }
-    show_key(page, used, inner, key)?;
+    used.show_key(page)?;
     say_key(page, file, map, key)?;
     page.show(file, map)?;
     Ok(true)
-}
-
-/// Shows a key in a text, between quotes or after a dot, or all of the text.
-fn show_key(
-    page: &mut Page,
-    used: Used<'_, '_>,
-    inner: &Term,
-    key: &str,
-) -> Result<(), AllocError> {
-    let Some(reference) = base_of(inner) else {
-        return used.show(page, None);
-    };
-    let quoted = format!(in page.alloc; "[\\\"{key}\\\"]")?;
-    if let Some(found) = used.after(page, reference, quoted.as_str())? {
-        return used.show(page, Some(shrunk(found, 3)));
-    }
-    let dotted = format!(in page.alloc; ".{key}")?;
-    let found = used.after(page, reference, dotted.as_str())?;
-    used.show(page, found.map(after_first_byte))
-}
-
-/// Returns whether a map has a key. A comment is none.
-fn has_key(text: &[u8], map: Span, key: &str) -> bool {
-    match member_named(text, map, key) {
-        Some(member) => !is_comment(text, member),
-        None => false,
-    }
 }
 
 /// Says that a map has no key, with the nearest one.
@@ -254,6 +235,7 @@ fn say_key(page: &mut Page, file: SourceFile<'_>, map: Span, key: &str) -> Resul
 /// Fails only if memory runs out.
 pub(crate) fn explain_arity(page: &mut Page, text: ReadText<'_, '_>) -> Result<bool, AllocError> {
     let mut is_found = false;
+    let length = text.sources.config.bytes.len();
     for (number, term) in text.terms.iter().enumerate() {
         let Term::Call(name, arguments) = *term else {
             continue;
@@ -263,8 +245,13 @@ pub(crate) fn explain_arity(page: &mut Page, text: ReadText<'_, '_>) -> Result<b
             continue;
         };
         let count = arguments.len();
-        if !function.takes(count) {
-            show_call(page, Used { text, number }, name)?;
+        if !function.takes(count) && page.may_read(length) {
+            let used = Used {
+                text,
+                number,
+                term: *term,
+            };
+            show_call(page, used, name)?;
             say_arity(page, name, takes(function), count)?;
             is_found = true;
         }
@@ -315,12 +302,14 @@ pub(crate) fn explain_wrong_kind(
     text: ReadText<'_, '_>,
 ) -> Result<bool, AllocError> {
     let mut is_found = false;
+    let length = text.sources.config.bytes.len();
     for (number, term) in text.terms.iter().enumerate() {
-        if instances_mistaken(page, Used { text, number }, *term)? {
-            is_found = true;
+        let term = *term;
+        if is_step(term) && page.may_read(length) {
+            is_found = instances_mistaken(page, Used { text, number, term })? || is_found;
         }
     }
-    if is_found {
+    if is_found || explain_operands(page, text)? {
         return Ok(true);
     }
     say_what_is_taken(page, text)
@@ -334,8 +323,9 @@ fn say_what_is_taken(page: &mut Page, text: ReadText<'_, '_>) -> Result<bool, Al
         let Some(sentence) = what_is_taken(*term) else {
             continue;
         };
-        only = match (*term, sentences.is_empty()) {
-            (Term::Call(name, _), true) => Some((number, name.as_str())),
+        let term = *term;
+        only = match (term, sentences.is_empty()) {
+            (Term::Call(name, _), true) => Some((Used { text, number, term }, name.as_str())),
             _ => None,
         };
         if !sentences.contains(&sentence) {
@@ -346,7 +336,7 @@ fn say_what_is_taken(page: &mut Page, text: ReadText<'_, '_>) -> Result<bool, Al
         return Ok(false);
     }
     match only {
-        Some((number, name)) => show_call(page, Used { text, number }, name)?,
+        Some((used, name)) => show_call(page, used, name)?,
         None => page.show(text.sources.config, text.span)?,
     }
     for sentence in &sentences {
@@ -366,12 +356,14 @@ pub(crate) fn explain_joined(
     template: &Template,
     sources: Sources<'_>,
 ) -> Result<bool, AllocError> {
-    if template.parts.len() < 2 && is_alone(template) {
+    if is_alone(template) {
         return Ok(false);
     }
     let mut is_shown = false;
     for part in &template.parts {
-        is_shown = show_joined(page, span, &part.1, sources)? || is_shown;
+        if page.may_read(sources.config.bytes.len()) {
+            is_shown = show_joined(page, span, &part.1, sources)? || is_shown;
+        }
     }
     if !is_shown {
         page.show(sources.config, span)?;
@@ -382,14 +374,6 @@ pub(crate) fn explain_joined(
     Ok(true)
 }
 
-/// Returns whether a template is only one interpolation, or only text.
-fn is_alone(template: &Template) -> bool {
-    match template.parts.first() {
-        Some(part) => part.0.is_empty() && template.last.is_empty(),
-        None => true,
-    }
-}
-
 /// Shows a variable or a local in a text, and its value, if it can't be part of the text. Returns whether it did.
 fn show_joined(
     page: &mut Page,
@@ -397,16 +381,14 @@ fn show_joined(
     term: &Term,
     sources: Sources<'_>,
 ) -> Result<bool, AllocError> {
-    let Some((file, value)) = value_of(term, sources) else {
+    let Some((file, value)) = value_of(page.alloc, term, sources)? else {
         return Ok(false);
     };
     let Term::Reference(reference) = term else {
         return Ok(false);
     };
-    let kind = match byte_at(file.bytes, value.start) {
-        b'[' => "a list",
-        b'{' => "a map",
-        b'n' => "null",
+    let kind = match kind_at(file.bytes, value) {
+        Some(kind) if matches!(kind, LIST | MAP | NULL) => kind,
         _ => return Ok(false),
     };
     let address = address_of(page, reference)?;
@@ -417,19 +399,23 @@ fn show_joined(
 }
 
 /// Says of which kind a value is.
-fn say_kind<'a>(page: &mut Page, name: &'a str, kind: &'a str) -> Result<(), AllocError> {
+///
+/// # Errors
+///
+/// Fails only if memory runs out.
+pub(crate) fn say_kind<'a>(
+    page: &mut Page,
+    name: &'a str,
+    kind: &'a str,
+) -> Result<(), AllocError> {
     page.say(&["`", name, "` is ", kind, ":"])
 }
 
 /// Explains a resource with `count` or `for_each` that is used without an index, or one without them that is used with an index.
-fn instances_mistaken(
-    page: &mut Page,
-    used: Used<'_, '_>,
-    term: &Term,
-) -> Result<bool, AllocError> {
-    let (inner, is_index) = match term {
-        Term::Attribute(inner, _) => (&**inner, false),
-        Term::Index(inner, _) => (&**inner, true),
+fn instances_mistaken(page: &mut Page, used: Used<'_, '_>) -> Result<bool, AllocError> {
+    let (inner, place) = match used.term {
+        Term::Attribute(inner, _) => (&**inner, None),
+        Term::Index(inner, place) => (&**inner, Some(&**place)),
         _ => return Ok(false),
     };
     let Term::Reference(reference) = inner else {
@@ -441,7 +427,7 @@ fn instances_mistaken(
         return Ok(false);
     };
     let instances = Instances::of(config.bytes, block);
-    if is_index == instances.are_many() {
+    if instances.take(place) {
         return Ok(false);
     }
     let found = used.reference(page, reference)?;
@@ -472,9 +458,15 @@ impl Instances {
         }
     }
 
-    /// Returns whether an instance is chosen by an index.
-    fn are_many(self) -> bool {
-        !matches!(self, Instances::One)
+    /// Returns whether an index, or none, chooses an instance.
+    fn take(self, place: Option<&Term>) -> bool {
+        match (self, place) {
+            (Instances::Count, Some(Term::Quoted(_))) => false,
+            (Instances::ForEach, Some(Term::Number(_))) => false,
+            (Instances::One, None) => true,
+            (Instances::One, Some(_)) => false,
+            (_, found) => found.is_some(),
+        }
     }
 }
 
@@ -504,7 +496,7 @@ fn say_instances(page: &mut Page, address: &str, instances: Instances) -> Result
 }
 
 /// Returns which values a part of an expression takes.
-fn what_is_taken(term: &Term) -> Option<&'static str> {
+pub(crate) fn what_is_taken(term: &Term) -> Option<&'static str> {
     match term {
         Term::Call(name, _) => match Function::named(name.as_str())? {
             Function::Length => Some("`length` takes a list, a map or a set, and no text."),

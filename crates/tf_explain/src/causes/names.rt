@@ -81,14 +81,24 @@ fn explain_all(
     found: Found<'_>,
     names: &Names<'_>,
 ) -> Result<(), AllocError> {
+    let length = used.config.bytes.len();
     for (number, reference) in names.references.iter().enumerate() {
+        if !page.may_read(length) {
+            break;
+        }
         if !is_earlier(names, number, *reference) && !is_known(used, *reference) {
             explain_reference(page, used, *reference)?;
         }
     }
     for (number, function) in names.functions.iter().enumerate() {
         let name = function.as_str();
-        if Function::named(name).is_none() && !is_called_earlier(names, number, name) {
+        if Function::named(name).is_some() {
+            continue;
+        }
+        if !page.may_read(length) {
+            break;
+        }
+        if !is_called_earlier(names, number, name) {
             explain_function(page, used, name)?;
         }
     }

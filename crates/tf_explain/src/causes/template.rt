@@ -1,5 +1,6 @@
 //! Texts that are no templates.
 
+use crate::code::open_quote;
 use crate::decoding::{spelled_at, text_in};
 use crate::page::Page;
 use crate::positions::{Found, find};
@@ -40,8 +41,16 @@ fn explain_offset(
 ) -> Result<(), AllocError> {
     let token = token_at(text, offset);
     let raw = between_quotes(config.bytes, found.value);
-    page.show(config, spelled_span(config.bytes, raw, offset, token.len()))?;
-    explain_token(page, text.get(..offset).unwrap_or(""), token)?;
+    match open_quote(config.bytes, raw) {
+        Some(quote) if token.is_empty() => {
+            page.show(config, quote)?;
+            page.say(&["The text that begins here isn't closed: its second quote is missing."])?;
+        }
+        _ => {
+            page.show(config, spelled_span(config.bytes, raw, offset, token.len()))?;
+            explain_token(page, text.get(..offset).unwrap_or(""), token)?;
+        }
+    }
     page.note_earlier(config, found)
 }
 

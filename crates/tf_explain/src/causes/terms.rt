@@ -1,6 +1,6 @@
 //! The parts of an expression, collected.
 
-use std::alloc::AllocError;
+use std::alloc::{AllocError, Global};
 use tf_expr_syntax::{Template, Term};
 
 /// Adds each part of a template's expressions, a whole before its parts.
@@ -17,6 +17,17 @@ pub(crate) fn add_template<'a>(
         add_term(&part.1, found)?;
     }
     Ok(())
+}
+
+/// Returns how many parts an expression has, with itself.
+///
+/// # Errors
+///
+/// Fails only if memory runs out.
+pub(crate) fn part_count(alloc: Global, term: &Term) -> Result<usize, AllocError> {
+    let mut parts: Vec<&Term> = Vec::new(alloc);
+    add_term(term, &mut parts)?;
+    Ok(parts.len())
 }
 
 #[cycle(terms)]
