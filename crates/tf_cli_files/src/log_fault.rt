@@ -3,7 +3,7 @@
 use std::io;
 use std::sync::atomic::{AtomicI32, Ordering};
 
-/// The code that stands for no error: the system has none with this number.
+/// The code of no error: the system has no error with this number.
 const NONE: i32 = 0;
 
 /// An error of the system because of which a line of a log couldn't be written or synced. The log's sink keeps it here, and the program
