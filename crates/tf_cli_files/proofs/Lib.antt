@@ -1,1 +1,2 @@
 mod EachRead
+mod Unread

@@ -28,7 +28,7 @@ impl Ending {
 
 /// Builds an end without an error of the system.
 impl From<ExitCode> for Ending {
-    ghost from_gives = { λ status ending. ending.status ≡ status };
+    ghost from_gives = { λ status ending. (ending.status ≡ status) × (ending.cause ≡ None) };
 
     fn from(status: ExitCode) -> Ending
         ensures { (result.status ≡ status) × (result.cause ≡ None) }

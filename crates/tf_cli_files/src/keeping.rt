@@ -27,14 +27,28 @@ pub fn keep<W: Write, O: Write, E: Write>(
     ensures part { TakesStart W.contents file.entry file.exit text.now }
 {
     match file {
-        Some(file) => match write_to(file, text, out, err) {
-            Ok(()) => 0,
-            Err(_) => EXIT_STATE_NOT_WRITTEN,
-        },
+        Some(file) => write_status(file, text, out, err),
         None => {
             print_unwritten(text, out, err);
             EXIT_STATE_NOT_WRITTEN
         }
+    }
+}
+
+/// Writes the state's text to its open file, and returns the status.
+fn write_status<W: Write, O: Write, E: Write>(
+    file: &mut W,
+    text: &str,
+    out: &mut O,
+    err: &mut E,
+) -> u8
+    ensures ends { EndsKept 0 result text.now (O.contents out.old) (O.contents out.new) (E.contents err.old) (E.contents err.new) }
+    ensures whole { result ≡ 0 → Appends (W.contents file.old) (W.contents file.new) text.now }
+    ensures part { AppendsStart (W.contents file.old) (W.contents file.new) text.now }
+{
+    match write_to(file, text, out, err) {
+        Ok(()) => 0,
+        Err(_) => EXIT_STATE_NOT_WRITTEN,
     }
 }
 
