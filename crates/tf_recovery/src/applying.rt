@@ -199,12 +199,27 @@ fn apply_by<T: Threads + Wait + Sync, O: Write, E: Write>(
     let stop_after = given.options.stop_after;
     let events = call_events(rt, given.options.json);
     let control = CallControl::new(alloc, Arc::try_clone(file)?, stop_after, stop_file, events)?;
-    let WatchedProviders { sim, files } = watched_providers(rt, place, given, &control)?;
+    apply_controlled(rt, threads, place, file, &control, given, out, err)
+}
+
+/// Applies with `sim` and `local_file`, whose calls this control counts, logs and reports.
+fn apply_controlled<T: Threads + Wait + Sync, O: Write, E: Write>(
+    rt: &HostRuntime,
+    threads: &T,
+    place: &Place,
+    file: &File,
+    control: &CallControl<File>,
+    given: &ProgramInput,
+    out: &mut O,
+    err: &mut E,
+) -> io::Result<ExitCode> {
+    let alloc = rt.alloc();
+    let WatchedProviders { sim, files } = watched_providers(rt, place, given, control)?;
     let mut providers: Vec<Box<dyn Provider + Sync>> = Vec::new(alloc);
     providers.push(Box::new(alloc, sim)?)?;
     providers.push(Box::new(alloc, files)?)?;
     Ok(carry_out_by(
-        rt, threads, place, file, &control, given, &providers, out, err,
+        rt, threads, place, file, control, given, &providers, out, err,
     ))
 }
 
