@@ -11,28 +11,25 @@ use crate::remotes::read_types;
 use crate::repeating::repeat_idempotent;
 use crate::reporting::{begin_events, call_events, end_events, writer};
 use crate::settling::settle;
+use crate::watched::{WatchedProviders, watched_providers};
 use std::alloc::AllocError;
 use std::fs::File;
-use std::io::{IsTerminal, Stderr, Write};
+use std::io;
+use std::io::Write;
 use std::process::ExitCode;
 use std::sync::{Arc, Wait};
 use std::thread::Threads;
-use std::{env, io};
 use tf_cli_events::{Diagnosed, Events};
 use tf_cli_files::{
-    CallControl, Ending, Loaded, LogSink, Place, ProgramInput, StopFile, Stopping, UnfinishedApply,
-    load_locked,
+    CallControl, Ending, Loaded, Place, ProgramInput, StopFile, UnfinishedApply, load_locked,
 };
 use tf_cli_lines::save;
 use tf_cli_options::Options;
 use tf_cli_program::carry_out_logged;
 use tf_explain::Explained;
 use tf_provider::Provider;
-use tf_provider_local::LocalFile;
-use tf_provider_log::{LogEntry, Logged};
-use tf_provider_progress::{Progress, StatusLine};
+use tf_provider_log::LogEntry;
 use tf_provider_remote::RemoteTypes;
-use tf_provider_sim::Sim;
 
 /// Recovers an unfinished apply, if there is one, then applies, and returns the program's status. With `--json`, standard output
 /// has what happens as JSON, one event a line.
@@ -223,32 +220,6 @@ fn apply_controlled<T: Threads + Wait + Sync, O: Write, E: Write>(
     ))
 }
 
-/// A provider whose calls are logged, counted and printed.
-type Watched<P> = Progress<Stopping<Logged<P, LogSink<File>>>, Stderr, HostRuntime>;
-
-/// The providers of an apply.
-struct WatchedProviders {
-    sim: Watched<Sim>,
-    files: Watched<LocalFile<HostRuntime>>,
-}
-
-/// Returns the providers of an apply, whose calls this control counts and logs.
-fn watched_providers(
-    rt: &HostRuntime,
-    place: &Place,
-    given: &ProgramInput,
-    control: &CallControl<File>,
-) -> io::Result<WatchedProviders> {
-    let alloc = rt.alloc();
-    let status = Arc::new(alloc, StatusLine::new(alloc))?;
-    let sim = control.wrap(alloc, Sim::new(alloc)?)?;
-    let sim = with_progress(rt, given, &status, sim)?;
-    let reserved = place.own_files(alloc, &given.options)?;
-    let files = control.wrap(alloc, LocalFile::with_reserved(alloc, *rt, reserved)?)?;
-    let files = with_progress(rt, given, &status, files)?;
-    Ok(WatchedProviders { sim, files })
-}
-
 /// Returns the file that stops the apply, if the options name one.
 fn stop_file(rt: &HostRuntime, given: &ProgramInput) -> Result<Option<StopFile>, AllocError> {
     match &given.options.stop_file {
@@ -290,35 +261,4 @@ fn carry_out_by<T: Threads + Wait + Sync, O: Write, E: Write>(
     );
     print_log_cause(control, given, &mut err);
     status
-}
-
-/// Wraps a provider so that its calls are printed on standard error, if that is a terminal or `--progress` is given. A terminal
-/// has a status line.
-fn with_progress<P: Provider>(
-    rt: &HostRuntime,
-    given: &ProgramInput,
-    status: &Arc<StatusLine>,
-    provider: P,
-) -> Result<Progress<P, Stderr, HostRuntime>, AllocError> {
-    let err = rt.stderr();
-    let is_terminal = err.is_terminal();
-    let screen = if given.options.progress || is_terminal {
-        Some(err)
-    } else {
-        None
-    };
-    let status = if is_terminal && !is_dumb(rt) {
-        Some(Arc::try_clone(status)?)
-    } else {
-        None
-    };
-    Ok(Progress::new(rt.alloc(), screen, *rt, provider).with_status(status))
-}
-
-/// Returns whether the terminal can't move its cursor, by the environment variable `TERM`.
-fn is_dumb(rt: &HostRuntime) -> bool {
-    match env::var(rt, "TERM") {
-        Ok(name) => name.as_str() == "dumb",
-        Err(_) => false,
-    }
 }

@@ -20,6 +20,7 @@ mod reporting;
 mod session;
 mod settling;
 mod walking;
+mod watched;
 
 pub use applying::apply;
 pub use planning::plan;
