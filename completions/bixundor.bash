@@ -30,8 +30,8 @@ _bixundor() {
             ;;
     esac
     case $program in
-        plan) options="--config --vars --var --state --lineage --parallelism --stop-after --explain --diff --json --provider --graph --detailed-exitcode --help" ;;
-        apply) options="--config --vars --var --state --lineage --parallelism --stop-after --explain --diff --json --provider --progress --auto-approve --stop-file --in-flight --help" ;;
+        plan) options="--config --vars --var --state --lineage --parallelism --stop-after --explain --diff --json --provider --graph --detailed-exitcode --help --version" ;;
+        apply) options="--config --vars --var --state --lineage --parallelism --stop-after --explain --diff --json --provider --progress --auto-approve --stop-file --in-flight --help --version" ;;
         *) options="plan apply try --version --help" ;;
     esac
     if [[ $program == "" && ${COMP_WORDS[1]} == try && $COMP_CWORD -gt 1 ]]; then

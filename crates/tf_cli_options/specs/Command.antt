@@ -1,6 +1,7 @@
 -- The command line of the programs, as `clap` reads it.
-use Rattle.std.specs.Prelude.{◌≡◌, [], ◌∷◌, List, map, Some, codes}
+use Rattle.std.specs.Prelude.{◌≡◌, true, [], ◌∷◌, List, map, Some, codes}
 use Rattle.std.specs.Borrow.{Bor}
+use Rattle.clap.specs.Simple.{on_top}
 use Rattle.clap.specs.Words.{App, Rule, Text, new_app, new_rule, with_rule}
 use Rattle.clap.specs.declared.builder.action.ArgAction.TheVariants.{Append, SetTrue}
 use Rattle.clap.specs.declared.builder.value_parser.ValueParser.TheVariants as vp
@@ -43,12 +44,16 @@ flag_rule name = record (new_rule name) { long = Some name; action = Some SetTru
 abbrev pub repeated_rule : Text → Rule
 repeated_rule name = record (option_rule name) { action = Some Append }
 
--- The options of both programs: the file of the configuration, the files with variables' values, the values of single variables,
+-- a command that has a version
+abbrev pub with_version : App → App
+with_version a = on_top (λ s. record s { has_version = true }) a
+
+-- The options of both programs, which have a version: the file of the configuration, the files with variables' values, the values of single variables,
 -- the file of the state, the lineage of a new state, the number of workers, after how many calls to stop, whether errors are
 -- explained, whether a plan is printed with the old values, whether JSON is printed, and the folders of providers outside the program.
 unfoldable pub shared_app : App
 shared_app =
-    with_rule (with_rule (with_rule (with_rule (with_rule (with_rule (with_rule (with_rule (with_rule (with_rule (with_rule (new_app (codes "bixundor"))
+    with_rule (with_rule (with_rule (with_rule (with_rule (with_rule (with_rule (with_rule (with_rule (with_rule (with_rule (with_version (new_app (codes "bixundor")))
     (default_rule (codes "config") (codes "main.tf.json")))
     (repeated_rule (codes "vars")))
     (repeated_rule (codes "var")))

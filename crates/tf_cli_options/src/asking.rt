@@ -11,7 +11,7 @@ use std::process::ExitCode;
 use std::rt::Env;
 use std::{env, io};
 
-/// Reads the options on the program's command line. If they are refused, or ask for help, prints that and returns the
+/// Reads the options on the program's command line. If they are refused, or ask for help or the version, prints that and returns the
 /// program's exit status: 1 or 0.
 ///
 /// # Errors
@@ -29,7 +29,7 @@ pub fn asked_of<R: Env + AllocGlobal, O: Write, E: Write>(
     Ok(read_options(rt.alloc(), program, words.as_slice(), out, err))
 }
 
-/// Reads options from words. If they are refused, or ask for help, prints that and returns the exit status.
+/// Reads options from words. If they are refused, or ask for help or the version, prints that and returns the exit status.
 fn read_options<O: Write, E: Write>(
     alloc: Global,
     program: Program,

@@ -19,11 +19,14 @@ const DOT: &str = "dot";
 
 const LINEAGE: &str = "00000000-0000-0000-0000-000000000000";
 
+/// The version that `--version` prints. `./bixundor --version` reads it here.
+const VERSION: &str = "0.1.0";
+
 /// The forms in which `--graph` prints the order.
 const FORMS: [&str; 1] = [DOT];
 
 /// Reads the words of a program's command line, the program's name first. Fails with `clap`'s error if it refuses the
-/// words, if they ask for help, or if memory runs out.
+/// words, if they ask for help or for the version, or if memory runs out.
 pub fn options(alloc: Global, program: Program, words: &[String]) -> Result<Options, Error>
     ensures reads { IfOk result (λ o. (forms : Forms) × AreForms forms × Reads o (matches_of (options_app program forms) (map (λ w. string_bytes w) words.now))) }
     ensures workers { IfOk result (λ o. (1 ≤ o.parallelism) × (o.parallelism ≤ 64)) }
@@ -104,6 +107,7 @@ fn shared_command<'a>(alloc: Global) -> Result<Command<'a>, AllocError>
     ensures { IfOk result (λ c. app_of c ≡ shared_app) }
 {
     Command::new(alloc, "bixundor")
+        .version(VERSION)
         .arg(default_option(alloc, "config", "FILE", CONFIG, "The configuration"))?
         .arg(repeated_option(
             alloc,
