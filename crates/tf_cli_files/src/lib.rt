@@ -5,6 +5,7 @@
 mod controlling;
 mod ending;
 mod given;
+mod holder;
 mod keeping;
 mod loading;
 mod log_fault;

@@ -5,6 +5,7 @@ ghost use Rattle.tf_cli_files.specs.Program.{Fails};
 
 use crate::ending::Ending;
 use crate::given::ProgramInput;
+use crate::holder::print_holder;
 use crate::log_file::{LogFile, Settled, empty, open_log, read_log_file};
 use crate::messages::{print_locked, print_no_log, print_special, print_unwritable};
 use crate::place::Place;
@@ -114,8 +115,8 @@ fn check_owner<R: Files, E: Write>(
     }
 }
 
-/// Opens the log and locks it. If that fails, prints that.
-fn lock<R: Files, E: Write>(
+/// Opens the log and locks it. If that fails, prints that; if errors are explained, also who holds the lock.
+fn lock<R: Files + AllocGlobal, E: Write>(
     rt: &R,
     given: &ProgramInput,
     place: &Place,
@@ -127,7 +128,13 @@ where
 {
     match open_log(rt, place.log.as_str()) {
         Ok(Some(file)) => Ok(file),
-        Ok(None) => Err(Ending::from(print_locked(given.options.state.as_str(), err))),
+        Ok(None) => {
+            let status = print_locked(given.options.state.as_str(), err);
+            if given.options.explain {
+                print_holder(rt, place.log.as_str(), err);
+            }
+            Err(Ending::from(status))
+        }
         Err(error) => Err(Ending::by(print_no_log(place.log.as_str(), err), error)),
     }
 }

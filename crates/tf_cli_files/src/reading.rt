@@ -2,7 +2,7 @@
 
 ghost use Rattle.std.specs.Fn.{FnReturnsAt};
 ghost use Rattle.std.specs.IoError.{error_kind};
-ghost use Rattle.std.specs.Prelude.{◌≡◌, IfErr, IfOk, None, Ok, string_bytes};
+ghost use Rattle.std.specs.Prelude.{◌≡◌, ◌≢◌, IfErr, IfOk, IfSome, None, Ok, string_bytes};
 ghost use Rattle.tf_cli_lines.specs.Saved.{AppendsStart};
 ghost use Rattle.tf_cli_files.specs.Program.{AreReads, FailsReading, GoesOn, HasRead, IsFailure, MayFailReading, ReadsOptional, PrintsUnread, unread_line};
 
@@ -84,6 +84,7 @@ pub fn read_optional<F: Fn(&str) -> io::Result<Vec<u8>>, E: Write>(
 ) -> Result<Option<Vec<u8>>, Ending>
     requires { F.IsAlwaysCallable read.now }
     ensures status { IfErr result (FailsReading (FnReturnsAt F.Fn read.now) file.now) }
+    ensures present { IfErr result (λ ending. IfSome ending.cause (λ error. error_kind error ≢ ErrorKind.NotFound)) }
     ensures read { IfOk result (λ state. ReadsOptional (λ e. error_kind e ≡ ErrorKind.NotFound) (FnReturnsAt F.Fn read.now) file.now state) }
 {
     match read(file) {
