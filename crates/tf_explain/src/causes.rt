@@ -87,7 +87,7 @@ fn explain_line(
 /// What is said of a configuration that isn't JSON.
 const CONFIGURATION: Expected = Expected {
     native: "Only Terraform's JSON syntax (.tf.json) is read here, not the native syntax (.tf).",
-    empty: "Write a configuration into it, such as { \"output\": { \"NAME\": { \"value\": 1 } } }, or name another file with --config FILE.",
+    empty: "Write { \"resource\": { \"TYPE\": { \"NAME\": { .. } } } } into it, or name another file with --config FILE.",
 };
 
 /// What is said of a variables file that isn't JSON.

@@ -151,10 +151,13 @@ pub(crate) fn explain_unknown_instances(
                 page.say(&[
                     "Use a map with literal keys, and read the attributes in its values: {\"KEY\": \"${TYPE.NAME.ATTRIBUTE}\"}.",
                 ])?;
+                return page.say(&[
+                    "Or use a variable, or a local that reads no attribute of a resource.",
+                ]);
             }
         }
     }
-    page.say(&["Or use a variable, or a local that reads no attribute of a resource."])
+    page.say(&["Use a variable, or a local that reads no attribute of a resource."])
 }
 
 /// Names the attributes of resources that an expression, or a local to which it leads, reads.

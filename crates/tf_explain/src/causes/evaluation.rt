@@ -12,7 +12,7 @@ use crate::positions::{Member, member_named, string_end};
 use crate::sources::Sources;
 use crate::span::{Span, byte_at, bytes_in};
 use std::alloc::{AllocError, Global};
-use tf_expr_syntax::{Names, Reference, Template, Term, names_of};
+use tf_expr_syntax::{Names, Template, Term, names_of};
 use tf_expr_template::read_template;
 
 /// The most expressions that are looked through for one fault.
@@ -56,44 +56,43 @@ pub(crate) fn explain_evaluation<'a>(
     };
     let kind = kind.unwrap_or("");
     let scope = Scope::at(page, place, sources)?;
-    if explain_expression(page, span, kind, scope, Search::Certain)? {
-        return Ok(());
-    }
     let mut spans: Vec<Span> = Vec::new(page.alloc);
-    add_expressions(page, &mut spans, span, sources)?;
+    add_expressions(&mut page.part(), &mut spans, span, sources)?;
     let locals = spans.get(1..).unwrap_or(&[]);
-    let outside = Scope::of(sources);
-    if explain_locals(page, span, locals, kind, outside, Search::Certain)?
-        || explain_expression(page, span, kind, scope, Search::General)?
-        || explain_locals(page, span, locals, kind, outside, Search::General)?
-    {
-        return Ok(());
+    for search in [Search::Certain, Search::General] {
+        let is_certain = search == Search::Certain;
+        if (is_certain && explain_locals(page, span, locals, kind, sources, search)?)
+            || explain_expression(page, span, kind, scope, search)?
+            || (!is_certain && explain_locals(page, span, locals, kind, sources, search)?)
+        {
+            return Ok(());
+        }
     }
     page.show(sources.config, span)?;
     show_locals(page, locals, sources)?;
     page.say(&[sentence(kind)])
 }
 
-/// Explains the faults in the locals to which an expression leads. Returns whether it found one.
+/// Explains the faults in a local to which an expression leads: the last one that has some. Returns whether there is one.
 fn explain_locals(
     page: &mut Page,
     span: Span,
     locals: &[Span],
     kind: &str,
-    scope: Scope<'_>,
+    sources: Sources<'_>,
     search: Search,
 ) -> Result<bool, AllocError> {
-    let mut part = page.part();
-    let mut is_explained = false;
-    for local in locals {
-        is_explained = explain_expression(&mut part, *local, kind, scope, search)? || is_explained;
+    let scope = Scope::of(sources);
+    for local in locals.iter().rev() {
+        let mut part = page.part();
+        if explain_expression(&mut part, *local, kind, scope, search)? {
+            page.show(sources.config, span)?;
+            page.say(&["The fault may be in a local to which this refers:"])?;
+            page.append(part)?;
+            return Ok(true);
+        }
     }
-    if is_explained {
-        page.show(scope.sources.config, span)?;
-        page.say(&["The fault may be in a local to which this refers:"])?;
-        page.append(part)?;
-    }
-    Ok(is_explained)
+    Ok(false)
 }
 
 /// Shows the first locals to which an expression leads.
@@ -241,10 +240,13 @@ fn add_references(
     config: &[u8],
 ) -> Result<(), AllocError> {
     for reference in &names.references {
+        if reference.first.as_str() != "local" {
+            continue;
+        }
         if !page.may_read(config.len()) {
             break;
         }
-        let Some(local) = local_of(*reference, config) else {
+        let Some(local) = declaration(config, "locals", reference.name.as_str()) else {
             continue;
         };
         if !spans.contains(&local.value) && spans.len() < MOST_EXPRESSIONS {
@@ -252,14 +254,6 @@ fn add_references(
         }
     }
     Ok(())
-}
-
-/// Returns the local to which a reference refers.
-fn local_of(reference: &Reference, config: &[u8]) -> Option<Member> {
-    if reference.first.as_str() != "local" {
-        return None;
-    }
-    declaration(config, "locals", reference.name.as_str())
 }
 
 /// Returns the template of a text in the configuration, if it has an interpolation.

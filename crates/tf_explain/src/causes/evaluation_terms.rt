@@ -4,7 +4,7 @@ use crate::blocks::{block, block_has, consider_members};
 use crate::causes::evaluation::ReadText;
 use crate::causes::following::{is_reference, resource_of, value_of};
 use crate::causes::instances::{missing_counted, missing_keyed};
-use crate::causes::operands::explain_operands;
+use crate::causes::operands::{explain_operands, is_doubtful};
 use crate::causes::used::{Used, address_of};
 use crate::causes::values::{NUMBER, Shown, TEXT, number_at, show_value};
 use crate::decoding::{decoded, text_in};
@@ -290,6 +290,9 @@ pub(crate) fn say_what_is_taken(
         let Some(sentence) = what_may_be_wrong(term) else {
             continue;
         };
+        if !is_doubtful(page, term, text.scope)? {
+            continue;
+        }
         only = if sentences.is_empty() {
             Some(Used { text, number, term })
         } else {

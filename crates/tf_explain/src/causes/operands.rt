@@ -4,6 +4,7 @@ use crate::causes::evaluation::ReadText;
 use crate::causes::evaluation_terms::what_is_taken;
 use crate::causes::following::value_of;
 use crate::causes::kinds::kind_of;
+use crate::causes::scope::Scope;
 use crate::causes::shown_operands::{explain_element, explain_operand};
 use crate::causes::terms::part_count;
 use crate::causes::used::Used;
@@ -40,9 +41,7 @@ struct Operand<'t, 's> {
     used: Used<'t, 's>,
     /// The kind of the operand, or of its element.
     kind: &'static str,
-    /// Whether it is an element of a list that isn't taken.
-    is_element: bool,
-    /// Where that element is written, if it is in a list that a file shows.
+    /// The element, if an element of the operand isn't taken.
     element: Option<Shown<'s>>,
 }
 
@@ -108,7 +107,7 @@ fn explain_part(page: &mut Page, used: Used<'_, '_>) -> Result<(), AllocError> {
         Term::Attribute(inner, _) | Term::Index(inner, _) => explain_step(page, used, &**inner),
         _ => {
             let mut has_text = false;
-            for operand in wrong_operands(page, used)?.iter().take(MOST_OPERANDS) {
+            for operand in &wrong_operands(page, used)? {
                 has_text = has_text || operand.kind == TEXT;
                 explain(page, *operand)?;
             }
@@ -119,10 +118,9 @@ fn explain_part(page: &mut Page, used: Used<'_, '_>) -> Result<(), AllocError> {
 
 /// Explains an operand of a wrong kind.
 fn explain(page: &mut Page, operand: Operand<'_, '_>) -> Result<(), AllocError> {
-    if operand.is_element {
-        explain_element(page, operand.used, operand.kind, operand.element)
-    } else {
-        explain_operand(page, operand.used, operand.kind)
+    match operand.element {
+        Some(element) => explain_element(page, operand.used, operand.kind, element),
+        None => explain_operand(page, operand.used, operand.kind),
     }
 }
 
@@ -165,6 +163,39 @@ fn wrong_operands<'t, 's>(
         _ => {}
     }
     Ok(found)
+}
+
+/// Returns whether a part may have an operand of a wrong kind, of which neither the expression nor the files show the kind.
+///
+/// # Errors
+///
+/// Fails only if memory runs out.
+pub(crate) fn is_doubtful(
+    page: &mut Page,
+    term: &Term,
+    scope: Scope<'_>,
+) -> Result<bool, AllocError> {
+    match term {
+        Term::Binary(_, left, right) | Term::Index(left, right) => {
+            Ok(kind_of(page, left, scope)?.is_none() || kind_of(page, right, scope)?.is_none())
+        }
+        Term::Unary(_, inner) | Term::Conditional(inner, _, _) | Term::Attribute(inner, _) => {
+            Ok(kind_of(page, inner, scope)?.is_none())
+        }
+        Term::Call(_, arguments) => are_doubtful(page, arguments, scope),
+        _ => Ok(false),
+    }
+}
+
+/// Returns whether neither the expression nor the files show the kind of an argument. That of a list's elements may not be shown.
+fn are_doubtful(page: &mut Page, arguments: &[Term], scope: Scope<'_>) -> Result<bool, AllocError> {
+    for argument in arguments {
+        match kind_of(page, argument, scope)? {
+            Some(LIST) | None => return Ok(true),
+            Some(_) => {}
+        }
+    }
+    Ok(false)
 }
 
 /// Returns of which kinds the operands of an operator are, in words. If there are none, any value is taken.
@@ -211,7 +242,6 @@ fn add_wrong<'t, 's>(
             found.push(Operand {
                 used: whole.part(later, term),
                 kind,
-                is_element: false,
                 element: None,
             })?;
         }
@@ -231,6 +261,9 @@ fn add_wrong_arguments<'t, 's>(
     let mut later = 1usize;
     for (position, argument) in arguments.iter().enumerate() {
         let count = found.len();
+        if count >= MOST_OPERANDS {
+            break;
+        }
         let next = add_wrong(
             page,
             found,
@@ -267,7 +300,6 @@ fn add_wrong_element<'t, 's>(
     found.push(Operand {
         used: list,
         kind: element.kind().unwrap_or(""),
-        is_element: true,
         element: Some(element),
     })?;
     Ok(())

@@ -1,8 +1,8 @@
 //! Objects that may not be destroyed.
 
 use crate::blocks::{block_at, key_in, lifecycle_setting, read_address};
-use crate::causes::evaluation::template_at;
-use crate::causes::following::{Resolved, resolve, resolve_at};
+use crate::causes::evaluation::{is_alone, template_at};
+use crate::causes::following::{Resolved, is_reference, resolve, resolve_at};
 use crate::causes::instances::{add_keys, is_among};
 use crate::causes::recorded::{current_object, has_text};
 use crate::causes::scope::Scope;
@@ -13,7 +13,7 @@ use crate::positions::{Member, items, member_named};
 use crate::sources::{SourceFile, Sources};
 use crate::span::{Span, bytes_in};
 use std::alloc::AllocError;
-use tf_expr_syntax::Template;
+use tf_expr_syntax::{Template, Term};
 use tf_provider_protocol::{Attribute, Mode, schema_for};
 
 /// An object that may not be destroyed.
@@ -53,8 +53,7 @@ pub(crate) fn explain_prevented<'a>(
     if explain_lost(page, object)? {
         return page.say(&["Keep the instance, or remove `prevent_destroy`."]);
     }
-    explain_replaced(page, object)?;
-    page.say(&["Undo the change that replaces it, or remove `prevent_destroy`."])
+    explain_replaced(page, object)
 }
 
 /// Explains that the configuration doesn't have the instance any more. Returns whether it found that.
@@ -163,23 +162,22 @@ fn explain_key(
     Ok(true)
 }
 
-/// Explains why an object would be replaced, as far as the files show it.
+/// Explains why an object would be replaced, as far as the files show it, and what to do.
 fn explain_replaced(page: &mut Page, object: Protected<'_>) -> Result<(), AllocError> {
-    let Some(state) = object.sources.state else {
-        return Ok(());
-    };
-    let Some(record) = current_object(page.alloc, object.place, state)? else {
-        return Ok(());
-    };
-    if has_text(state.bytes, record, "status", "tainted") {
-        return page.say(&[
-            "The state says that this object is tainted: its create failed, or `terraform taint` marked it. So the plan replaces it.",
-        ]);
+    if let Some(state) = object.sources.state
+        && let Some(record) = current_object(page.alloc, object.place, state)?
+    {
+        if has_text(state.bytes, record, "status", "tainted") {
+            page.say(&["The state says that this object is tainted, so the plan replaces it."])?;
+            return page.say(&[
+                "Remove the mark, as `terraform untaint` does, or remove `prevent_destroy`.",
+            ]);
+        }
+        if let Some(attributes) = member_named(state.bytes, record, "attributes") {
+            explain_changes(page, object, state, attributes.value)?;
+        }
     }
-    match member_named(state.bytes, record, "attributes") {
-        Some(attributes) => explain_changes(page, object, state, attributes.value),
-        None => Ok(()),
-    }
+    page.say(&["Undo the change that replaces it, or remove `prevent_destroy`."])
 }
 
 /// Explains which arguments that replace an object differ from the state.
@@ -324,15 +322,29 @@ fn simple_value(
     argument: Span,
 ) -> Result<Option<String>, AllocError> {
     let scope = Scope::at(page, object.place, object.sources)?;
-    let first = Shown::expression(object.sources.config, argument);
-    match resolve_at(page, first, scope)? {
-        Resolved::Value(shown) if shown.kind().is_some() => simple(page, shown),
-        Resolved::Value(shown) => {
-            match template_at(page.alloc, shown.span, shown.file.bytes)? {
-                Some(template) => joined_text(page, &template, scope),
-                None => Ok(None),
-            }
-        }
+    let config = object.sources.config;
+    let first = Shown::expression(config, argument);
+    if first.first() == b'"'
+        && let Some(template) = template_at(page.alloc, argument, config.bytes)?
+        && is_alone(&template)
+        && !template.parts.is_empty()
+    {
+        return alone_value(page, &template, scope);
+    }
+    simple_text(page, first, scope)
+}
+
+/// Returns a value as a text, also that of a text with interpolations.
+fn simple_text(
+    page: &mut Page,
+    shown: Shown<'_>,
+    scope: Scope<'_>,
+) -> Result<Option<String>, AllocError> {
+    if shown.kind().is_some() {
+        return simple(page, shown);
+    }
+    match template_at(page.alloc, shown.span, shown.file.bytes)? {
+        Some(template) if !is_alone(&template) => joined_text(page, &template, scope),
         _ => Ok(None),
     }
 }
@@ -346,16 +358,49 @@ fn joined_text(
     let mut text = String::new(page.alloc);
     for part in &template.parts {
         text.push_str(part.0.as_str())?;
-        let Resolved::Value(shown) = resolve(page, &part.1, scope)? else {
-            return Ok(None);
-        };
-        match simple(page, shown)? {
+        match simple_part(page, &part.1, scope)? {
             Some(value) => text.push_str(value.as_str())?,
             None => return Ok(None),
         }
     }
     text.push_str(template.last.as_str())?;
     Ok(Some(text))
+}
+
+/// Returns the value of an interpolation as a text, if the files show it, and it isn't a list or a map.
+fn simple_part(
+    page: &mut Page,
+    term: &Term,
+    scope: Scope<'_>,
+) -> Result<Option<String>, AllocError> {
+    if let Term::Reference(reference) = term {
+        if is_reference(reference, "count", "index")
+            && let Some(index) = scope.index
+        {
+            return Ok(Some(format!(in page.alloc; "{index}")?));
+        }
+        if is_reference(reference, "each", "key")
+            && let Some(raw) = scope.key
+        {
+            return Ok(Some(decoded(page.alloc, raw)?));
+        }
+    }
+    match resolve(page, term, scope)? {
+        Resolved::Value(shown) => simple(page, shown),
+        _ => Ok(None),
+    }
+}
+
+/// Returns the value of an argument that is one interpolation.
+fn alone_value(
+    page: &mut Page,
+    template: &Template,
+    scope: Scope<'_>,
+) -> Result<Option<String>, AllocError> {
+    match template.parts.first() {
+        Some(part) => simple_part(page, &part.1, scope),
+        None => Ok(None),
+    }
 }
 
 /// Returns a text, a number, a truth value or null as a text.

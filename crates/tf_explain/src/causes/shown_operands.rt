@@ -35,7 +35,7 @@ pub(crate) fn explain_operand(
     }
 }
 
-/// Shows a list that has an element of a wrong kind, and the element, if a file shows it.
+/// Shows a list that has an element of a wrong kind, and the element.
 ///
 /// # Errors
 ///
@@ -44,16 +44,11 @@ pub(crate) fn explain_element(
     page: &mut Page,
     list: Used<'_, '_>,
     kind: &str,
-    element: Option<Shown<'_>>,
+    element: Shown<'_>,
 ) -> Result<(), AllocError> {
     list.show_step(page)?;
-    match element {
-        Some(shown) => {
-            page.say(&["An element of this list is ", kind, ":"])?;
-            show_value(page, shown)
-        }
-        None => page.say(&["An element of this list is ", kind, "."]),
-    }
+    page.say(&["An element of this list is ", kind, ":"])?;
+    show_value(page, element)
 }
 
 /// Returns whether an operand is a literal or a list.
@@ -80,12 +75,17 @@ fn say_value(page: &mut Page, term: &Term, kind: &str, shown: Shown<'_>) -> Resu
     if shown.written == Written::LeftOut {
         return page.say(&["Its value is null, since this block leaves it out:"]);
     }
+    let reason = if shown.is_made_a_text() {
+        ", since its variable's type makes a text of it:"
+    } else {
+        ":"
+    };
     match term {
         Term::Reference(reference) => {
             let address = address_of(page, reference)?;
-            page.say(&["`", address.as_str(), "` is ", kind, ":"])
+            page.say(&["`", address.as_str(), "` is ", kind, reason])
         }
-        _ => page.say(&["Its value is ", kind, ":"]),
+        _ => page.say(&["Its value is ", kind, reason]),
     }
 }
 

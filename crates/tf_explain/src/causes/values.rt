@@ -82,6 +82,11 @@ impl<'s> Shown<'s> {
         }
     }
 
+    /// Returns whether the type of the variable makes a text of a number or a truth value.
+    pub(crate) fn is_made_a_text(self) -> bool {
+        self.written == Written::AsText && self.first() != b'"' && self.first() != b'n'
+    }
+
     /// Returns an element of the value.
     fn element(self, span: Span) -> Shown<'s> {
         let written = match self.written {
