@@ -62,15 +62,20 @@ impl Page {
         }
     }
 
-    /// Adds the lines of a part, and takes over what is left of its limits.
+    /// Adds the lines of a part, and counts what was read for it.
     ///
     /// # Errors
     ///
     /// Fails only if memory runs out.
-    pub(crate) fn append(&mut self, part: Page) -> Result<(), AllocError> {
+    pub(crate) fn append(&mut self, part: &Page) -> Result<(), AllocError> {
         self.excerpts = self.excerpts.max(part.excerpts);
-        self.read = self.read.max(part.read);
+        self.count_read(part);
         self.text.push_str(part.text.as_str())
+    }
+
+    /// Counts what was read for a part.
+    pub(crate) fn count_read(&mut self, part: &Page) {
+        self.read = self.read.max(part.read);
     }
 
     /// Returns whether a file of this length may be looked through once more, and counts it.

@@ -83,14 +83,16 @@ fn explain_locals(
     search: Search,
 ) -> Result<bool, AllocError> {
     let scope = Scope::of(sources);
+    let mut read = page.part();
     for local in locals.iter().rev() {
-        let mut part = page.part();
+        let mut part = read.part();
         if explain_expression(&mut part, *local, kind, scope, search)? {
             page.show(sources.config, span)?;
             page.say(&["The fault may be in a local to which this refers:"])?;
-            page.append(part)?;
+            page.append(&part)?;
             return Ok(true);
         }
+        read.count_read(&part);
     }
     Ok(false)
 }
