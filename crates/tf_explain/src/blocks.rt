@@ -35,6 +35,13 @@ pub(crate) fn read_address(place: &str) -> Option<Address<'_>> {
     })
 }
 
+/// Returns the key of an instance in an address, as JSON spells it.
+pub(crate) fn key_in(place: &str) -> Option<&str> {
+    let (_, rest) = place.split_once("[")?;
+    let (key, _) = rest.rsplit_once("]")?;
+    Some(key)
+}
+
 /// Returns the property of a name in the top object of a text.
 pub(crate) fn section(text: &[u8], name: &str) -> Option<Member> {
     member_named(text, top(text), name)

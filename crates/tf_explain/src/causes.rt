@@ -1,31 +1,40 @@
 //! The causes of refusals and diagnostics, in sentences.
 
 mod arguments;
+mod arity;
+mod counted;
 mod cycle;
 mod evaluation;
 mod evaluation_terms;
+mod following;
 mod instances;
+mod joined;
 mod json;
+mod kinds;
 mod names;
 mod operands;
 mod others;
+mod prevented;
+mod recorded;
+mod scope;
 mod shape;
 mod shape_bodies;
+mod shown_operands;
 mod template;
 mod terms;
 mod used;
 mod values;
 
 use crate::causes::arguments::explain_argument;
-use crate::causes::cycle::{
-    explain_count, explain_cycle, explain_for_each, explain_unknown_instances,
-};
+use crate::causes::counted::{explain_count, explain_for_each, explain_unknown_instances};
+use crate::causes::cycle::explain_cycle;
 use crate::causes::evaluation::explain_evaluation;
-use crate::causes::json::explain_json;
+use crate::causes::json::{Expected, explain_json};
 use crate::causes::names::explain_names;
 use crate::causes::others::{
-    explain_diagnostic, explain_limit, explain_no_provider, explain_prevented, explain_state,
+    explain_diagnostic, explain_limit, explain_no_provider, explain_state,
 };
+use crate::causes::prevented::explain_prevented;
 use crate::causes::shape::explain_shape;
 use crate::causes::template::explain_template;
 use crate::line::{ErrorLine, detail_of};
@@ -75,20 +84,24 @@ fn explain_line(
     }
 }
 
+/// What is said of a configuration that isn't JSON.
+const CONFIGURATION: Expected = Expected {
+    native: "Only Terraform's JSON syntax (.tf.json) is read here, not the native syntax (.tf).",
+    empty: "Write { \"resource\": { \"TYPE\": { \"NAME\": { .. } } } } into it, or name another file with --config FILE.",
+};
+
+/// What is said of a variables file that isn't JSON.
+const VARIABLES: Expected = Expected {
+    native: "A variables file is one JSON object: { \"NAME\": VALUE }.",
+    empty: "A variables file is one JSON object: { \"NAME\": VALUE }.",
+};
+
 /// Explains why a file isn't JSON.
 fn explain_file(page: &mut Page, place: &str, sources: Sources<'_>) -> Result<(), AllocError> {
     match place {
-        "configuration" => explain_json(
-            page,
-            sources.config,
-            "Only Terraform's JSON syntax (.tf.json) is read here, not the native syntax (.tf).",
-        ),
+        "configuration" => explain_json(page, sources.config, CONFIGURATION),
         "variables" => match sources.vars {
-            Some(vars) => explain_json(
-                page,
-                vars,
-                "A variables file is one JSON object: { \"NAME\": VALUE }.",
-            ),
+            Some(vars) => explain_json(page, vars, VARIABLES),
             None => Ok(()),
         },
         _ => Ok(()),

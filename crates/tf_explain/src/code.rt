@@ -1,6 +1,6 @@
 //! Places in the expressions of a template, as JSON spells it.
 
-use crate::positions::is_space;
+use crate::positions::{is_space, skip_space};
 use crate::span::{Span, byte_at, bytes_in, is_name_byte};
 
 /// Returns where a part of an expression is, such as a name, in the expressions of a template. The template is a JSON text, whose
@@ -53,6 +53,71 @@ pub(crate) fn list_in_code(text: &[u8], template: Span, skipped: usize) -> Optio
         reader = reader.next(text);
     }
     None
+}
+
+/// Returns where the expression of an interpolation is, behind the given number of earlier ones in a template.
+pub(crate) fn interpolation(text: &[u8], template: Span, skipped: usize) -> Option<Span> {
+    let mut left = skipped;
+    let mut start = None;
+    let mut reader = Reader::new(template);
+    for _ in template.start..template.end {
+        let next = reader.next(text);
+        if next.at > template.end {
+            return None;
+        }
+        if reader.open == 0 && next.open == 1 {
+            start = Some(next.at);
+        }
+        if reader.open == 1 && next.open == 0 {
+            if left == 0 {
+                return Some(trimmed(
+                    text,
+                    Span {
+                        start: start?,
+                        end: reader.at,
+                    },
+                ));
+            }
+            left = left.saturating_sub(1);
+        }
+        reader = next;
+    }
+    None
+}
+
+/// Returns a range without the space at its ends.
+fn trimmed(text: &[u8], span: Span) -> Span {
+    let mut end = span.start;
+    for at in span.start..span.end {
+        if !is_space(byte_at(text, at)) {
+            end = at.saturating_add(1);
+        }
+    }
+    let start = skip_space(text, span.start).min(end);
+    Span { start, end }
+}
+
+/// Returns the position after the parenthesis that closes the first one from a position in the expressions of a template on.
+pub(crate) fn closing(text: &[u8], template: Span, from: usize) -> usize {
+    let mut depth = 0usize;
+    let mut level = 0usize;
+    let mut reader = Reader::new(template);
+    for _ in template.start..template.end {
+        let byte = byte_at(text, reader.at);
+        let is_counted = reader.at >= from && (depth == 0 || reader.open == level);
+        if is_counted && reader.is_in_code() && byte == b'(' {
+            level = reader.open;
+            depth = depth.saturating_add(1);
+        }
+        if is_counted && reader.is_in_code() && byte == b')' {
+            depth = depth.saturating_sub(1);
+            if depth == 0 {
+                return reader.at.saturating_add(1).min(template.end);
+            }
+        }
+        reader = reader.next(text);
+    }
+    from
 }
 
 /// Returns the position after the bracket that closes the one at a position.

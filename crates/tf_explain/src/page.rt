@@ -52,6 +52,32 @@ impl Page {
         text
     }
 
+    /// Returns an empty page that has the same limits left.
+    pub(crate) fn part(&self) -> Page {
+        Page {
+            alloc: self.alloc,
+            text: String::new(self.alloc),
+            excerpts: self.excerpts,
+            read: self.read,
+        }
+    }
+
+    /// Adds the lines of a part, and counts what was read for it.
+    ///
+    /// # Errors
+    ///
+    /// Fails only if memory runs out.
+    pub(crate) fn append(&mut self, part: &Page) -> Result<(), AllocError> {
+        self.excerpts = self.excerpts.max(part.excerpts);
+        self.count_read(part);
+        self.text.push_str(part.text.as_str())
+    }
+
+    /// Counts what was read for a part.
+    pub(crate) fn count_read(&mut self, part: &Page) {
+        self.read = self.read.max(part.read);
+    }
+
     /// Returns whether a file of this length may be looked through once more, and counts it.
     pub(crate) fn may_read(&mut self, length: usize) -> bool {
         self.read = self.read.saturating_add(length);

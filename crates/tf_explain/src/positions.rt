@@ -329,6 +329,37 @@ fn member_step<'a>(
     Ok(best)
 }
 
+/// Splits a path in an object after the name of the property with which it begins: the longest one. If the object has no such
+/// property, splits it at the first dot.
+///
+/// # Errors
+///
+/// Fails only if memory runs out.
+pub(crate) fn split_name<'a>(
+    alloc: Global,
+    text: &[u8],
+    object: Span,
+    path: &'a str,
+) -> Result<(&'a str, &'a str), AllocError> {
+    let from = Found {
+        value: object,
+        name: None,
+        earlier: None,
+        rest: path,
+    };
+    let Some(found) = member_step(alloc, text, from)? else {
+        return Ok(path.split_once(".").unwrap_or((path, "")));
+    };
+    let length = path.len().saturating_sub(found.rest.len());
+    let first = path.get(..length).unwrap_or(path);
+    let name = if found.rest.is_empty() {
+        first
+    } else {
+        first.strip_suffix(".").unwrap_or(first)
+    };
+    Ok((name, found.rest))
+}
+
 /// Follows a step to an element of an array.
 fn item_step<'a>(
     alloc: Global,

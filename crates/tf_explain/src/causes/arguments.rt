@@ -1,8 +1,7 @@
 //! Arguments that don't fit the schema of their type, and values of variables.
 
 use crate::blocks::{add_declared, add_names, block, declaration, lifecycle_setting, read_address};
-use crate::causes::evaluation_terms::say_attribute;
-use crate::causes::values::value_of_variable;
+use crate::causes::values::{show_value, value_of_variable};
 use crate::decoding::{is_text, text_in};
 use crate::near::Nearest;
 use crate::page::Page;
@@ -10,7 +9,7 @@ use crate::positions::{Member, items, member_named, top};
 use crate::sources::{SourceFile, Sources};
 use crate::span::{Span, byte_at, find_bytes};
 use std::alloc::{AllocError, Global};
-use tf_provider_protocol::{Attribute, Kind, Mode, schema_for};
+use tf_provider_protocol::{Attribute, Kind, Mode, Schema, schema_for};
 
 /// Explains a bad argument, or the bad value of a variable.
 ///
@@ -43,17 +42,42 @@ pub(crate) fn explain_argument(
                 None => ignored_at(page.alloc, config.bytes, found, address.attribute)?,
             };
             page.show(config, span)?;
-            say_attribute(page, address.type_name, address.attribute, schema)
+            say_no_argument(page, address.type_name, address.attribute, schema)
         }
         Some(attribute) => explain_attribute(
             page,
             address.type_name,
+            schema,
             attribute,
             config,
             found,
             argument,
         ),
     }
+}
+
+/// What the programs call the values of several files and options.
+const MERGED: &str = "the merged variables";
+
+/// The properties of each block that are no arguments.
+const PROPERTIES: [&str; 4] = ["count", "for_each", "depends_on", "lifecycle"];
+
+/// Says that a type has no attribute, with the nearest one or the nearest other property of a block.
+fn say_no_argument(
+    page: &mut Page,
+    type_name: &str,
+    name: &str,
+    schema: &Schema,
+) -> Result<(), AllocError> {
+    let mut nearest = Nearest::to(page.alloc, name);
+    for attribute in schema.attributes() {
+        nearest.consider(attribute.name.as_str())?;
+    }
+    nearest.consider_all(&PROPERTIES)?;
+    page.suggest(
+        &["The type `", type_name, "` has no attribute `", name, "`."],
+        &nearest,
+    )
 }
 
 /// Returns where a name is in `ignore_changes`, or where its block's name is.
@@ -70,10 +94,11 @@ fn ignored_at(alloc: Global, text: &[u8], block: Member, name: &str) -> Result<S
 }
 
 /// Explains a bad value of an attribute that the type has.
-fn explain_attribute<'a>(
+fn explain_attribute(
     page: &mut Page,
-    type_name: &'a str,
-    attribute: &'a Attribute,
+    type_name: &str,
+    schema: &Schema,
+    attribute: &Attribute,
     config: SourceFile<'_>,
     block: Member,
     argument: Option<Member>,
@@ -81,7 +106,7 @@ fn explain_attribute<'a>(
     let name = attribute.name.as_str();
     let Some(argument) = argument else {
         page.show(config, block.name)?;
-        return say_required(page, type_name, name);
+        return say_required(page, type_name, name, config, block, schema);
     };
     if let Mode::Computed = attribute.mode {
         page.show(config, argument.name)?;
@@ -118,15 +143,52 @@ fn say_kind<'a>(
     page.say(&[given.text()])
 }
 
-/// Says that an argument is required.
-fn say_required<'a>(page: &mut Page, type_name: &'a str, name: &'a str) -> Result<(), AllocError> {
+/// Says that an argument is required, with a near name in the block that isn't an attribute.
+fn say_required(
+    page: &mut Page,
+    type_name: &str,
+    name: &str,
+    config: SourceFile<'_>,
+    block: Member,
+    schema: &Schema,
+) -> Result<(), AllocError> {
     page.say(&[
         "The argument `",
         name,
         "` is required in a block of the type `",
         type_name,
         "`.",
-    ])
+    ])?;
+    let mut written: Vec<String> = Vec::new(page.alloc);
+    add_names(page.alloc, &mut written, config.bytes, block.value)?;
+    let mut nearest = Nearest::to(page.alloc, name);
+    for other in &written {
+        if schema.attribute(other.as_str()).is_none() {
+            nearest.consider(other.as_str())?;
+        }
+    }
+    match nearest.best() {
+        Some(other) => say_mistyped(page, name, other, config, block.value),
+        None => Ok(()),
+    }
+}
+
+/// Says that a property has a near name.
+///
+/// # Errors
+///
+/// Fails only if memory runs out.
+pub(crate) fn say_mistyped(
+    page: &mut Page,
+    name: &str,
+    written: &str,
+    config: SourceFile<'_>,
+    object: Span,
+) -> Result<(), AllocError> {
+    if let Some(member) = member_named(config.bytes, object, written) {
+        page.show(config, member.name)?;
+    }
+    page.say(&["Did you mean `", name, "` in place of `", written, "`?"])
 }
 
 /// Returns the values of a kind, in words.
@@ -141,7 +203,7 @@ fn kind_text(kind: Kind) -> &'static str {
 
 /// What is given for an argument.
 #[derive(Clone, Copy)]
-enum Given {
+pub(crate) enum Given {
     List,
     Object,
     Truth,
@@ -154,7 +216,7 @@ enum Given {
 
 impl Given {
     /// Returns what is given in a range of a file.
-    fn of(text: &[u8], value: Span) -> Given {
+    pub(crate) fn of(text: &[u8], value: Span) -> Given {
         match byte_at(text, value.start) {
             b'[' => Given::List,
             b'{' => Given::Object,
@@ -167,7 +229,7 @@ impl Given {
     }
 
     /// Returns that it is given, in words.
-    fn text(self) -> &'static str {
+    pub(crate) fn text(self) -> &'static str {
         match self {
             Given::List => "A list is given.",
             Given::Object => "An object is given.",
@@ -187,15 +249,28 @@ fn explain_variable(page: &mut Page, name: &str, sources: Sources<'_>) -> Result
         return Ok(());
     };
     match value_of_variable(name, sources) {
-        Some((file, value)) => {
-            page.show(file, value)?;
-            explain_misfit(page, name, config, variable)
+        Some(shown) => {
+            show_value(page, shown)?;
+            explain_misfit(page, name, config, variable)?;
+            say_merged(page, name, shown.file)
         }
         None => {
             page.show(config, variable.name)?;
             explain_no_value(page, name, sources)
         }
     }
+}
+
+/// Says where a value comes from, if the values of several files and options were merged.
+fn say_merged(page: &mut Page, name: &str, file: SourceFile<'_>) -> Result<(), AllocError> {
+    if file.name != MERGED {
+        return Ok(());
+    }
+    page.say(&[
+        "The last --vars or --var on the command line that has `",
+        name,
+        "` gives this value.",
+    ])
 }
 
 /// Explains that a variable's value doesn't fit its type.

@@ -1,9 +1,10 @@
 //! Expressions without a value.
 
 use crate::blocks::{block, declaration, read_address};
-use crate::causes::evaluation_terms::{
-    explain_arity, explain_joined, explain_missing, explain_wrong_kind,
-};
+use crate::causes::arity::explain_arity;
+use crate::causes::evaluation_terms::{explain_missing, explain_wrong_kind, say_what_is_taken};
+use crate::causes::joined::{explain_joined, show_doubtful};
+use crate::causes::scope::Scope;
 use crate::causes::terms::add_template;
 use crate::decoding::text_in;
 use crate::page::Page;
@@ -11,11 +12,14 @@ use crate::positions::{Member, member_named, string_end};
 use crate::sources::Sources;
 use crate::span::{Span, byte_at, bytes_in};
 use std::alloc::{AllocError, Global};
-use tf_expr_syntax::{Names, Reference, Template, Term, names_of};
+use tf_expr_syntax::{Names, Template, Term, names_of};
 use tf_expr_template::read_template;
 
 /// The most expressions that are looked through for one fault.
 const MOST_EXPRESSIONS: usize = 20;
+
+/// The most locals that are shown for a fault that may be in one of them.
+const MOST_LOCALS: usize = 3;
 
 /// A text of an expression, and what was read from it.
 #[derive(Clone, Copy)]
@@ -24,7 +28,16 @@ pub(crate) struct ReadText<'t, 's> {
     pub(crate) span: Span,
     /// The parts of its expressions.
     pub(crate) terms: &'t [&'t Term],
-    pub(crate) sources: Sources<'s>,
+    pub(crate) scope: Scope<'s>,
+}
+
+/// How an expression is explained.
+#[derive(Clone, Copy, PartialEq, Eq)]
+enum Search {
+    /// A part is shown if the expression or the files show that it is the fault.
+    Certain,
+    /// If they don't, what the parts take is said.
+    General,
 }
 
 /// Explains why an expression has no value.
@@ -32,43 +45,68 @@ pub(crate) struct ReadText<'t, 's> {
 /// # Errors
 ///
 /// Fails only if memory runs out.
-pub(crate) fn explain_evaluation(
+pub(crate) fn explain_evaluation<'a>(
     page: &mut Page,
-    place: &str,
+    place: &'a str,
     kind: Option<&str>,
-    sources: Sources<'_>,
+    sources: Sources<'a>,
 ) -> Result<(), AllocError> {
     let Some(span) = expression_at(place, sources) else {
         return Ok(());
     };
     let kind = kind.unwrap_or("");
-    if explain_expression(page, span, kind, sources)? {
-        return Ok(());
+    let scope = Scope::at(page, place, sources)?;
+    let mut spans: Vec<Span> = Vec::new(page.alloc);
+    add_expressions(&mut page.part(), &mut spans, span, sources)?;
+    let locals = spans.get(1..).unwrap_or(&[]);
+    for search in [Search::Certain, Search::General] {
+        let is_certain = search == Search::Certain;
+        if (is_certain && explain_locals(page, span, locals, kind, sources, search)?)
+            || explain_expression(page, span, kind, scope, search)?
+            || (!is_certain && explain_locals(page, span, locals, kind, sources, search)?)
+        {
+            return Ok(());
+        }
     }
     page.show(sources.config, span)?;
-    let mut spans: Vec<Span> = Vec::new(page.alloc);
-    add_expressions(page, &mut spans, span, sources)?;
-    explain_locals(page, spans.get(1..).unwrap_or(&[]), kind, sources)
+    show_locals(page, locals, sources)?;
+    page.say(&[sentence(kind)])
 }
 
-/// Explains the faults in the locals to which an expression leads, or says only the kind of its fault.
+/// Explains the faults in a local to which an expression leads: the last one that has some. Returns whether there is one.
 fn explain_locals(
     page: &mut Page,
+    span: Span,
     locals: &[Span],
     kind: &str,
     sources: Sources<'_>,
-) -> Result<(), AllocError> {
-    if !locals.is_empty() {
-        page.say(&["The fault may be in a local to which this refers:"])?;
+    search: Search,
+) -> Result<bool, AllocError> {
+    let scope = Scope::of(sources);
+    let mut read = page.part();
+    for local in locals.iter().rev() {
+        let mut part = read.part();
+        if explain_expression(&mut part, *local, kind, scope, search)? {
+            page.show(sources.config, span)?;
+            page.say(&["The fault may be in a local to which this refers:"])?;
+            page.append(&part)?;
+            return Ok(true);
+        }
+        read.count_read(&part);
     }
-    let mut is_explained = false;
-    for local in locals {
-        is_explained = explain_expression(page, *local, kind, sources)? || is_explained;
-    }
-    if is_explained {
+    Ok(false)
+}
+
+/// Shows the first locals to which an expression leads.
+fn show_locals(page: &mut Page, locals: &[Span], sources: Sources<'_>) -> Result<(), AllocError> {
+    if locals.is_empty() {
         return Ok(());
     }
-    page.say(&[sentence(kind)])
+    page.say(&["The fault may be in a local to which this refers:"])?;
+    for local in locals.iter().take(MOST_LOCALS) {
+        page.show(sources.config, *local)?;
+    }
+    Ok(())
 }
 
 /// Explains the faults in the texts of an expression. Returns whether it found one.
@@ -76,16 +114,17 @@ fn explain_expression(
     page: &mut Page,
     expression: Span,
     kind: &str,
-    sources: Sources<'_>,
+    scope: Scope<'_>,
+    search: Search,
 ) -> Result<bool, AllocError> {
     let mut is_explained = false;
     let mut at = expression.start;
     for _ in expression.start..expression.end {
-        let Some(text) = next_text(sources.config.bytes, at, expression) else {
+        let Some(text) = next_text(scope.sources.config.bytes, at, expression) else {
             break;
         };
         at = text.end;
-        is_explained = explain_text(page, text, kind, sources)? || is_explained;
+        is_explained = explain_text(page, text, kind, scope, search)? || is_explained;
     }
     Ok(is_explained)
 }
@@ -130,7 +169,7 @@ fn value_in(config: &[u8], object: Member, names: [&str; 2]) -> Span {
 }
 
 /// Returns where the first text from a position on is in a range, with its quotes.
-fn next_text(text: &[u8], from: usize, within: Span) -> Option<Span> {
+pub(crate) fn next_text(text: &[u8], from: usize, within: Span) -> Option<Span> {
     for start in from..within.end {
         if byte_at(text, start) == b'"' {
             let end = string_end(text, start);
@@ -141,7 +180,11 @@ fn next_text(text: &[u8], from: usize, within: Span) -> Option<Span> {
 }
 
 /// Adds where an expression is, and the locals to which it leads.
-fn add_expressions(
+///
+/// # Errors
+///
+/// Fails only if memory runs out.
+pub(crate) fn add_expressions(
     page: &mut Page,
     spans: &mut Vec<Span>,
     first: Span,
@@ -199,10 +242,13 @@ fn add_references(
     config: &[u8],
 ) -> Result<(), AllocError> {
     for reference in &names.references {
+        if reference.first.as_str() != "local" {
+            continue;
+        }
         if !page.may_read(config.len()) {
             break;
         }
-        let Some(local) = local_of(*reference, config) else {
+        let Some(local) = declaration(config, "locals", reference.name.as_str()) else {
             continue;
         };
         if !spans.contains(&local.value) && spans.len() < MOST_EXPRESSIONS {
@@ -210,14 +256,6 @@ fn add_references(
         }
     }
     Ok(())
-}
-
-/// Returns the local to which a reference refers.
-fn local_of(reference: &Reference, config: &[u8]) -> Option<Member> {
-    if reference.first.as_str() != "local" {
-        return None;
-    }
-    declaration(config, "locals", reference.name.as_str())
 }
 
 /// Returns the template of a text in the configuration, if it has an interpolation.
@@ -250,10 +288,20 @@ fn explain_text(
     page: &mut Page,
     span: Span,
     kind: &str,
-    sources: Sources<'_>,
+    scope: Scope<'_>,
+    search: Search,
 ) -> Result<bool, AllocError> {
-    match template_at(page.alloc, span, sources.config.bytes)? {
-        Some(template) => explain_template(page, span, kind, &template, sources),
+    match template_at(page.alloc, span, scope.sources.config.bytes)? {
+        Some(template) => {
+            let mut terms: Vec<&Term> = Vec::new(page.alloc);
+            add_template(&template, &mut terms)?;
+            let text = ReadText {
+                span,
+                terms: terms.as_slice(),
+                scope,
+            };
+            explain_template(page, text, kind, &template, search)
+        }
         None => Ok(false),
     }
 }
@@ -261,39 +309,32 @@ fn explain_text(
 /// Explains a fault in a template. Returns whether it found one.
 fn explain_template(
     page: &mut Page,
-    span: Span,
+    text: ReadText<'_, '_>,
     kind: &str,
     template: &Template,
-    sources: Sources<'_>,
+    search: Search,
 ) -> Result<bool, AllocError> {
-    if explain_terms(page, span, kind, template, sources)? {
-        return Ok(true);
-    }
-    if kind != "WrongKind" {
-        return Ok(false);
-    }
-    explain_joined(page, span, template, sources)
-}
-
-/// Explains a fault in the parts of a template's expressions. Returns whether it found one.
-fn explain_terms(
-    page: &mut Page,
-    span: Span,
-    kind: &str,
-    template: &Template,
-    sources: Sources<'_>,
-) -> Result<bool, AllocError> {
-    let mut terms: Vec<&Term> = Vec::new(page.alloc);
-    add_template(template, &mut terms)?;
-    let text = ReadText {
-        span,
-        terms: terms.as_slice(),
-        sources,
-    };
-    match kind {
-        "Missing" => explain_missing(page, text),
-        "WrongKind" => explain_wrong_kind(page, text),
-        "Arity" => explain_arity(page, text),
+    match (kind, search) {
+        ("Missing", Search::Certain) => explain_missing(page, text),
+        ("Arity", Search::Certain) => explain_arity(page, text),
+        ("WrongKind", Search::Certain) => {
+            Ok(explain_wrong_kind(page, text)? || explain_joined(page, text, template)?)
+        }
+        ("WrongKind", Search::General) => explain_generally(page, text, template),
         _ => Ok(false),
     }
+}
+
+/// Says which values the parts of a template take. Returns whether it has such parts.
+fn explain_generally(
+    page: &mut Page,
+    text: ReadText<'_, '_>,
+    template: &Template,
+) -> Result<bool, AllocError> {
+    if is_alone(template) {
+        return say_what_is_taken(page, text, true);
+    }
+    show_doubtful(page, text, template)?;
+    say_what_is_taken(page, text, false)?;
+    Ok(true)
 }

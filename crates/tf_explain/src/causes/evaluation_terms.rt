@@ -1,19 +1,18 @@
 //! Which part of an expression has no value.
 
 use crate::blocks::{block, block_has, consider_members};
-use crate::causes::evaluation::{ReadText, is_alone};
+use crate::causes::evaluation::ReadText;
+use crate::causes::following::{is_reference, resource_of, value_of};
 use crate::causes::instances::{missing_counted, missing_keyed};
-use crate::causes::operands::explain_operands;
+use crate::causes::operands::{explain_operands, is_doubtful};
 use crate::causes::used::{Used, address_of};
-use crate::causes::values::{LIST, MAP, NULL, NUMBER, TEXT, at_key, kind_at, number_at, value_of};
-use crate::decoding::text_in;
+use crate::causes::values::{NUMBER, Shown, TEXT, number_at, show_value};
+use crate::decoding::{decoded, text_in};
 use crate::near::Nearest;
 use crate::page::Page;
 use crate::positions::{Member, items};
-use crate::sources::{SourceFile, Sources};
-use crate::span::{Span, byte_at};
 use std::alloc::AllocError;
-use tf_expr_syntax::{Function, Operator, Prefix, Reference, Template, Term};
+use tf_expr_syntax::{Function, Operator, Prefix, Reference, Term};
 use tf_provider_protocol::{Schema, schema_for};
 
 /// Explains an attribute, an index or a key that doesn't exist. Returns whether it found one.
@@ -23,7 +22,7 @@ use tf_provider_protocol::{Schema, schema_for};
 /// Fails only if memory runs out.
 pub(crate) fn explain_missing(page: &mut Page, text: ReadText<'_, '_>) -> Result<bool, AllocError> {
     let mut is_found = false;
-    let length = text.sources.config.bytes.len();
+    let length = text.scope.sources.config.bytes.len();
     for (number, term) in text.terms.iter().enumerate() {
         let term = *term;
         if is_step(term) && page.may_read(length) {
@@ -51,18 +50,6 @@ fn missing_step(page: &mut Page, used: Used<'_, '_>) -> Result<bool, AllocError>
     }
 }
 
-/// Returns the reference of which a part is an attribute or an element.
-fn base_of(term: &Term) -> Option<&Reference> {
-    match term {
-        Term::Reference(reference) => Some(reference),
-        Term::Index(inner, _) => match &**inner {
-            Term::Reference(reference) => Some(reference),
-            _ => None,
-        },
-        _ => None,
-    }
-}
-
 /// Explains an attribute that its object doesn't have.
 fn missing_attribute<'a>(
     page: &mut Page,
@@ -70,8 +57,8 @@ fn missing_attribute<'a>(
     inner: &'a Term,
     name: &'a str,
 ) -> Result<bool, AllocError> {
-    let type_name = base_of(inner).map_or("", |reference| reference.first.as_str());
-    match schema_for(used.text.sources.providers, type_name) {
+    let type_name = resource_of(inner).map_or("", |reference| reference.first.as_str());
+    match schema_for(used.text.scope.sources.providers, type_name) {
         Some(schema) if schema.attribute(name).is_none() => {
             used.show_step(page)?;
             say_attribute(page, type_name, name, schema)?;
@@ -83,11 +70,7 @@ fn missing_attribute<'a>(
 }
 
 /// Says that a type has no attribute, with the nearest one.
-///
-/// # Errors
-///
-/// Fails only if memory runs out.
-pub(crate) fn say_attribute<'a>(
+fn say_attribute<'a>(
     page: &mut Page,
     type_name: &'a str,
     name: &'a str,
@@ -130,38 +113,72 @@ fn explain_negative(page: &mut Page, used: Used<'_, '_>) -> Result<bool, AllocEr
     Ok(true)
 }
 
-/// Explains an index or a key that doesn't exist and is the value of a variable or a local.
+/// Explains an index or a key that doesn't exist and is the value of a reference.
 fn missing_referred(
     page: &mut Page,
     used: Used<'_, '_>,
     inner: &Term,
     place: &Term,
 ) -> Result<bool, AllocError> {
-    let Some((file, span)) = value_of(page.alloc, place, used.text.sources)? else {
+    if let Term::Reference(reference) = place
+        && matches!(reference.first.as_str(), "count" | "each")
+    {
+        return missing_own(page, used, inner, reference);
+    }
+    let Some(shown) = value_of(page, place, used.text.scope)? else {
         return Ok(false);
     };
-    let is_missing = missing_value(page, used, inner, file, span)?;
+    let is_missing = missing_value(page, used, inner, shown)?;
     if is_missing {
         page.say(&["The value between the brackets is here:"])?;
-        page.show(file, span)?;
+        show_value(page, shown)?;
     }
     Ok(is_missing)
 }
 
-/// Explains an index or a key that doesn't exist and is in a range of a file.
+/// Explains an index or a key that doesn't exist and is `count.index` or `each.key`.
+fn missing_own(
+    page: &mut Page,
+    used: Used<'_, '_>,
+    inner: &Term,
+    reference: &Reference,
+) -> Result<bool, AllocError> {
+    let scope = used.text.scope;
+    if is_reference(reference, "count", "index")
+        && let Some(index) = scope.index
+    {
+        let is_missing = missing_index(page, used, inner, index)?;
+        if is_missing {
+            let sentence = format!(in page.alloc; "`count.index` is {index} in this instance.")?;
+            page.say(&[sentence.as_str()])?;
+        }
+        return Ok(is_missing);
+    }
+    let is_key = is_reference(reference, "each", "key");
+    let Some(raw) = scope.key else {
+        return Ok(false);
+    };
+    let key = decoded(page.alloc, raw)?;
+    if !is_key || !missing_key(page, used, inner, key.as_str())? {
+        return Ok(false);
+    }
+    page.say(&["`each.key` is `", key.as_str(), "` in this instance."])?;
+    Ok(true)
+}
+
+/// Explains an index or a key that doesn't exist and that a file shows.
 fn missing_value(
     page: &mut Page,
     used: Used<'_, '_>,
     inner: &Term,
-    file: SourceFile<'_>,
-    span: Span,
+    shown: Shown<'_>,
 ) -> Result<bool, AllocError> {
-    match kind_at(file.bytes, span) {
+    match shown.kind() {
         Some(TEXT) => {
-            let key = text_in(page.alloc, file.bytes, span)?;
+            let key = text_in(page.alloc, shown.file.bytes, shown.span)?;
             missing_key(page, used, inner, key.as_str())
         }
-        Some(NUMBER) => match number_at(file.bytes, span) {
+        Some(NUMBER) => match number_at(shown.file.bytes, shown.span) {
             Some(index) => missing_index(page, used, inner, index),
             None => explain_negative(page, used),
         },
@@ -176,27 +193,35 @@ fn missing_index(
     inner: &Term,
     index: u64,
 ) -> Result<bool, AllocError> {
-    let Some((file, span)) = value_of(page.alloc, inner, used.text.sources)? else {
+    if let Term::List(elements) = inner {
+        let count = elements.len() as u64;
+        if index >= count {
+            used.show_step(page)?;
+            say_index(page, count, index, ".")?;
+        }
+        return Ok(index >= count);
+    }
+    let Some(shown) = value_of(page, inner, used.text.scope)? else {
         return missing_counted(page, used, inner, index);
     };
-    if byte_at(file.bytes, span.start) != b'[' {
+    if shown.first() != b'[' {
         return Ok(false);
     }
-    let count = items(page.alloc, file.bytes, span)?.len() as u64;
+    let count = items(page.alloc, shown.file.bytes, shown.span)?.len() as u64;
     if index < count {
         return Ok(false);
     }
     used.show_step(page)?;
-    say_index(page, count, index)?;
-    page.show(file, span)?;
+    say_index(page, count, index, ":")?;
+    show_value(page, shown)?;
     Ok(true)
 }
 
 /// Says that a list has too few elements for an index.
-fn say_index(page: &mut Page, count: u64, index: u64) -> Result<(), AllocError> {
+fn say_index(page: &mut Page, count: u64, index: u64, end: &str) -> Result<(), AllocError> {
     let elements = if count == 1 { "element" } else { "elements" };
     let sentence = format!(in page.alloc;
-        "The list has {count} {elements}, counted from 0, so there is no [{index}]:"
+        "The list has {count} {elements}, counted from 0, so there is no [{index}]{end}"
     )?;
     page.say(&[sentence.as_str()])
 }
@@ -208,88 +233,23 @@ fn missing_key(
     inner: &Term,
     key: &str,
 ) -> Result<bool, AllocError> {
-    let Some((file, map)) = value_of(page.alloc, inner, used.text.sources)? else {
+    let Some(map) = value_of(page, inner, used.text.scope)? else {
         return missing_keyed(page, used, inner, key);
     };
-    let is_map = byte_at(file.bytes, map.start) == b'{';
-    if !is_map || at_key(file, map, key).is_some() {
+    if map.first() != b'{' || map.at_key(key).is_some() {
         return Ok(false);
     }
     used.show_key(page)?;
-    say_key(page, file, map, key)?;
-    page.show(file, map)?;
+    say_key(page, map, key)?;
+    show_value(page, map)?;
     Ok(true)
 }
 
 /// Says that a map has no key, with the nearest one.
-fn say_key(page: &mut Page, file: SourceFile<'_>, map: Span, key: &str) -> Result<(), AllocError> {
+fn say_key(page: &mut Page, map: Shown<'_>, key: &str) -> Result<(), AllocError> {
     let mut nearest = Nearest::to(page.alloc, key);
-    consider_members(&mut nearest, file.bytes, map, "")?;
+    consider_members(&mut nearest, map.file.bytes, map.span, "")?;
     page.suggest(&["The map has no key `", key, "`."], &nearest)
-}
-
-/// Explains functions with a wrong number of arguments. Returns whether it found one.
-///
-/// # Errors
-///
-/// Fails only if memory runs out.
-pub(crate) fn explain_arity(page: &mut Page, text: ReadText<'_, '_>) -> Result<bool, AllocError> {
-    let mut is_found = false;
-    let length = text.sources.config.bytes.len();
-    for (number, term) in text.terms.iter().enumerate() {
-        let Term::Call(name, arguments) = *term else {
-            continue;
-        };
-        let name = name.as_str();
-        let Some(function) = Function::named(name) else {
-            continue;
-        };
-        let count = arguments.len();
-        if !function.takes(count) && page.may_read(length) {
-            let used = Used {
-                text,
-                number,
-                term: *term,
-            };
-            show_call(page, used, name)?;
-            say_arity(page, name, takes(function), count)?;
-            is_found = true;
-        }
-    }
-    Ok(is_found)
-}
-
-/// Shows the name of a function that is called, or all of the text.
-fn show_call(page: &mut Page, used: Used<'_, '_>, name: &str) -> Result<(), AllocError> {
-    let mut earlier = 0usize;
-    for term in used.text.terms.iter().take(used.number) {
-        if let Term::Call(other, _) = *term
-            && other.as_str() == name
-        {
-            earlier = earlier.saturating_add(1);
-        }
-    }
-    used.show(page, used.word(name, earlier))
-}
-
-/// Says how many arguments a function takes, and how many it has.
-fn say_arity<'a>(
-    page: &mut Page,
-    name: &'a str,
-    takes: &'a str,
-    count: usize,
-) -> Result<(), AllocError> {
-    let sentence = format!(in page.alloc; "`{name}` takes {takes}, and has {count} here.")?;
-    page.say(&[sentence.as_str()])
-}
-
-/// Returns how many arguments a function takes.
-fn takes(function: Function) -> &'static str {
-    match function {
-        Function::Length | Function::Keys | Function::Values | Function::ToSet => "1 argument",
-        Function::Merge | Function::Concat => "1 argument or more",
-        Function::Join => "2 arguments",
-    }
 }
 
 /// Explains values of wrong kinds. Returns whether it found one.
@@ -302,31 +262,41 @@ pub(crate) fn explain_wrong_kind(
     text: ReadText<'_, '_>,
 ) -> Result<bool, AllocError> {
     let mut is_found = false;
-    let length = text.sources.config.bytes.len();
+    let length = text.scope.sources.config.bytes.len();
     for (number, term) in text.terms.iter().enumerate() {
         let term = *term;
         if is_step(term) && page.may_read(length) {
             is_found = instances_mistaken(page, Used { text, number, term })? || is_found;
         }
     }
-    if is_found || explain_operands(page, text)? {
-        return Ok(true);
-    }
-    say_what_is_taken(page, text)
+    Ok(is_found || explain_operands(page, text)?)
 }
 
-/// Says which values the parts of an expression take, each sentence once. Returns whether there are such parts.
-fn say_what_is_taken(page: &mut Page, text: ReadText<'_, '_>) -> Result<bool, AllocError> {
+/// Says which values the parts of an expression take, each sentence once. Returns whether there are such parts. Before it, shows the
+/// text, or the only call in it, if that is wanted.
+///
+/// # Errors
+///
+/// Fails only if memory runs out.
+pub(crate) fn say_what_is_taken(
+    page: &mut Page,
+    text: ReadText<'_, '_>,
+    is_shown: bool,
+) -> Result<bool, AllocError> {
     let mut sentences: Vec<&'static str> = Vec::new(page.alloc);
     let mut only = None;
     for (number, term) in text.terms.iter().enumerate() {
-        let Some(sentence) = what_is_taken(*term) else {
+        let term = *term;
+        let Some(sentence) = what_may_be_wrong(term) else {
             continue;
         };
-        let term = *term;
-        only = match (term, sentences.is_empty()) {
-            (Term::Call(name, _), true) => Some((Used { text, number, term }, name.as_str())),
-            _ => None,
+        if !is_doubtful(page, term, text.scope)? {
+            continue;
+        }
+        only = if sentences.is_empty() {
+            Some(Used { text, number, term })
+        } else {
+            None
         };
         if !sentences.contains(&sentence) {
             sentences.push(sentence)?;
@@ -335,9 +305,11 @@ fn say_what_is_taken(page: &mut Page, text: ReadText<'_, '_>) -> Result<bool, Al
     if sentences.is_empty() {
         return Ok(false);
     }
-    match only {
-        Some((used, name)) => show_call(page, used, name)?,
-        None => page.show(text.sources.config, text.span)?,
+    if is_shown {
+        match only {
+            Some(used) => used.show_step(page)?,
+            None => page.show(text.scope.sources.config, text.span)?,
+        }
     }
     for sentence in &sentences {
         page.say(&[*sentence])?;
@@ -345,70 +317,20 @@ fn say_what_is_taken(page: &mut Page, text: ReadText<'_, '_>) -> Result<bool, Al
     Ok(true)
 }
 
-/// Explains a list, a map or null that is part of a text. Returns whether it found one.
-///
-/// # Errors
-///
-/// Fails only if memory runs out.
-pub(crate) fn explain_joined(
-    page: &mut Page,
-    span: Span,
-    template: &Template,
-    sources: Sources<'_>,
-) -> Result<bool, AllocError> {
-    if is_alone(template) {
-        return Ok(false);
+/// Returns which values a part of an expression takes, if it may have another one. An attribute of a resource is one that there is.
+fn what_may_be_wrong(term: &Term) -> Option<&'static str> {
+    match term {
+        Term::Attribute(inner, _) if is_resource(&**inner) => None,
+        _ => what_is_taken(term),
     }
-    let mut is_shown = false;
-    for part in &template.parts {
-        if page.may_read(sources.config.bytes.len()) {
-            is_shown = show_joined(page, span, &part.1, sources)? || is_shown;
-        }
-    }
-    if !is_shown {
-        page.show(sources.config, span)?;
-    }
-    page.say(&[
-        "A text joins texts, whole numbers and truth values. A list, a map, a set or null can't be part of it.",
-    ])?;
-    Ok(true)
 }
 
-/// Shows a variable or a local in a text, and its value, if it can't be part of the text. Returns whether it did.
-fn show_joined(
-    page: &mut Page,
-    template: Span,
-    term: &Term,
-    sources: Sources<'_>,
-) -> Result<bool, AllocError> {
-    let Some((file, value)) = value_of(page.alloc, term, sources)? else {
-        return Ok(false);
-    };
-    let Term::Reference(reference) = term else {
-        return Ok(false);
-    };
-    let kind = match kind_at(file.bytes, value) {
-        Some(kind) if matches!(kind, LIST | MAP | NULL) => kind,
-        _ => return Ok(false),
-    };
-    let address = address_of(page, reference)?;
-    page.show_word(sources.config, template, address.as_str())?;
-    say_kind(page, address.as_str(), kind)?;
-    page.show(file, value)?;
-    Ok(true)
-}
-
-/// Says of which kind a value is.
-///
-/// # Errors
-///
-/// Fails only if memory runs out.
-pub(crate) fn say_kind<'a>(
-    page: &mut Page,
-    name: &'a str,
-    kind: &'a str,
-) -> Result<(), AllocError> {
-    page.say(&["`", name, "` is ", kind, ":"])
+/// Returns whether an operand refers to a resource or one of its instances.
+fn is_resource(term: &Term) -> bool {
+    match resource_of(term) {
+        Some(reference) => !matches!(reference.first.as_str(), "var" | "local" | "count" | "each"),
+        None => false,
+    }
 }
 
 /// Explains a resource with `count` or `for_each` that is used without an index, or one without them that is used with an index.
@@ -421,7 +343,7 @@ fn instances_mistaken(page: &mut Page, used: Used<'_, '_>) -> Result<bool, Alloc
     let Term::Reference(reference) = inner else {
         return Ok(false);
     };
-    let config = used.text.sources.config;
+    let config = used.text.scope.sources.config;
     let (first, name) = (reference.first.as_str(), reference.name.as_str());
     let Some(block) = block(config.bytes, first, name) else {
         return Ok(false);
@@ -499,7 +421,7 @@ fn say_instances(page: &mut Page, address: &str, instances: Instances) -> Result
 pub(crate) fn what_is_taken(term: &Term) -> Option<&'static str> {
     match term {
         Term::Call(name, _) => match Function::named(name.as_str())? {
-            Function::Length => Some("`length` takes a list, a map or a set, and no text."),
+            Function::Length => Some("`length` takes a list, a map or a set."),
             Function::Keys => Some("`keys` takes a map."),
             Function::Values => Some("`values` takes a map."),
             Function::Merge => Some("`merge` takes maps."),

@@ -2,13 +2,15 @@
 
 use crate::blocks::{add_names, block};
 use crate::causes::evaluation::{is_alone, template_at};
+use crate::causes::following::value_of;
+use crate::causes::scope::Scope;
 use crate::causes::used::{Used, address_of};
-use crate::causes::values::{number_at, value_of};
+use crate::causes::values::{Shown, number_at};
 use crate::decoding::text_in;
 use crate::near::Nearest;
 use crate::page::Page;
 use crate::positions::{Member, items, member_named};
-use crate::sources::{SourceFile, Sources};
+use crate::sources::Sources;
 use crate::span::{Span, byte_at, is_literal};
 use std::alloc::{AllocError, Global};
 use tf_expr_syntax::{Template, Term};
@@ -41,7 +43,7 @@ pub(crate) fn missing_counted(
     inner: &Term,
     index: u64,
 ) -> Result<bool, AllocError> {
-    let config = used.text.sources.config;
+    let config = used.text.scope.sources.config;
     let Some(property) = property_of(inner, "count", config.bytes) else {
         return Ok(false);
     };
@@ -81,12 +83,12 @@ pub(crate) fn missing_keyed(
     inner: &Term,
     key: &str,
 ) -> Result<bool, AllocError> {
-    let config = used.text.sources.config;
+    let config = used.text.scope.sources.config;
     let Some(property) = property_of(inner, "for_each", config.bytes) else {
         return Ok(false);
     };
     let mut keys: Vec<String> = Vec::new(page.alloc);
-    let is_known = add_keys(page.alloc, &mut keys, property.value, used.text.sources)?;
+    let is_known = add_keys(page, &mut keys, property.value, used.text.scope.sources)?;
     if !is_known || is_among(&keys, key) {
         return Ok(false);
     }
@@ -98,7 +100,7 @@ pub(crate) fn missing_keyed(
 }
 
 /// Returns whether a text is among some.
-fn is_among(texts: &[String], wanted: &str) -> bool {
+pub(crate) fn is_among(texts: &[String], wanted: &str) -> bool {
     for text in texts {
         if text.as_str() == wanted {
             return true;
@@ -122,29 +124,33 @@ fn say_keyed(page: &mut Page, address: &str, keys: &[String], key: &str) -> Resu
 }
 
 /// Adds the keys that a `for_each` has. Returns whether the files show all of them.
-fn add_keys(
-    alloc: Global,
+///
+/// # Errors
+///
+/// Fails only if memory runs out.
+pub(crate) fn add_keys(
+    page: &mut Page,
     keys: &mut Vec<String>,
     for_each: Span,
     sources: Sources<'_>,
 ) -> Result<bool, AllocError> {
     let config = sources.config.bytes;
     if byte_at(config, for_each.start) == b'{' {
-        add_names(alloc, keys, config, for_each)?;
+        add_names(page.alloc, keys, config, for_each)?;
         return Ok(true);
     }
-    match template_at(alloc, for_each, config)? {
-        Some(template) => add_keys_of(alloc, keys, &template, sources),
+    match template_at(page.alloc, for_each, config)? {
+        Some(template) => add_keys_of(page, keys, &template, Scope::of(sources)),
         None => Ok(false),
     }
 }
 
 /// Adds the keys of a template that is one expression: a map, or `toset` of a list. Returns whether the files show all of them.
 fn add_keys_of(
-    alloc: Global,
+    page: &mut Page,
     keys: &mut Vec<String>,
     template: &Template,
-    sources: Sources<'_>,
+    scope: Scope<'_>,
 ) -> Result<bool, AllocError> {
     let Some(part) = template.parts.first() else {
         return Ok(false);
@@ -155,12 +161,12 @@ fn add_keys_of(
     match &part.1 {
         Term::Call(name, arguments) if name.as_str() == "toset" => match arguments.first() {
             Some(Term::List(terms)) => add_texts(keys, terms),
-            Some(term) => add_elements(alloc, keys, term, sources),
+            Some(term) => add_elements(page, keys, term, scope),
             None => Ok(false),
         },
-        term => match value_of(alloc, term, sources)? {
-            Some((file, map)) if byte_at(file.bytes, map.start) == b'{' => {
-                add_names(alloc, keys, file.bytes, map)?;
+        term => match value_of(page, term, scope)? {
+            Some(map) if map.first() == b'{' => {
+                add_names(page.alloc, keys, map.file.bytes, map.span)?;
                 Ok(true)
             }
             _ => Ok(false),
@@ -183,31 +189,25 @@ fn add_texts(keys: &mut Vec<String>, terms: &[Term]) -> Result<bool, AllocError>
 
 /// Adds the literal texts of a list that is the value of an operand. Returns whether the files show all of its elements.
 fn add_elements(
-    alloc: Global,
+    page: &mut Page,
     keys: &mut Vec<String>,
     term: &Term,
-    sources: Sources<'_>,
+    scope: Scope<'_>,
 ) -> Result<bool, AllocError> {
-    match value_of(alloc, term, sources)? {
-        Some((file, list)) if byte_at(file.bytes, list.start) == b'[' => {
-            add_items(alloc, keys, file, list)
-        }
+    match value_of(page, term, scope)? {
+        Some(list) if list.first() == b'[' => add_items(page.alloc, keys, list),
         _ => Ok(false),
     }
 }
 
 /// Adds the literal texts of a list. Returns whether all of its elements are literal texts.
-fn add_items(
-    alloc: Global,
-    keys: &mut Vec<String>,
-    file: SourceFile<'_>,
-    list: Span,
-) -> Result<bool, AllocError> {
-    for item in &items(alloc, file.bytes, list)? {
-        if !is_literal(file.bytes, *item) {
+fn add_items(alloc: Global, keys: &mut Vec<String>, list: Shown<'_>) -> Result<bool, AllocError> {
+    let text = list.file.bytes;
+    for item in &items(alloc, text, list.span)? {
+        if !is_literal(text, *item) {
             return Ok(false);
         }
-        keys.push(text_in(alloc, file.bytes, *item)?)?;
+        keys.push(text_in(alloc, text, *item)?)?;
     }
     Ok(true)
 }

@@ -8,7 +8,16 @@ use crate::span::{byte_at, byte_span};
 use serde_json::Value;
 use std::alloc::{AllocError, Global};
 
-/// Explains why a file isn't JSON. Explains nothing if it is. The last argument is said of a file in another syntax.
+/// What is said of a file that isn't JSON.
+#[derive(Clone, Copy)]
+pub(crate) struct Expected {
+    /// What is said of a file in another syntax.
+    pub(crate) native: &'static str,
+    /// What is said of an empty file.
+    pub(crate) empty: &'static str,
+}
+
+/// Explains why a file isn't JSON. Explains nothing if it is.
 ///
 /// # Errors
 ///
@@ -16,15 +25,17 @@ use std::alloc::{AllocError, Global};
 pub(crate) fn explain_json(
     page: &mut Page,
     file: SourceFile<'_>,
-    native: &str,
+    expected: Expected,
 ) -> Result<(), AllocError> {
     match json_fault(page.alloc, file.bytes)? {
-        Some(fault) if fault.kind == JsonFaultKind::Ends => explain_end(page, file, fault),
+        Some(fault) if fault.kind == JsonFaultKind::Ends => {
+            explain_end(page, file, fault, expected)
+        }
         Some(fault) => {
             page.show(file, fault.span)?;
             page.say(&[sentence(fault.kind)])?;
             if fault.kind == JsonFaultKind::NativeSyntax {
-                return page.say(&[native]);
+                return page.say(&[expected.native]);
             }
             Ok(())
         }
@@ -33,10 +44,16 @@ pub(crate) fn explain_json(
 }
 
 /// Explains that a file ends too early.
-fn explain_end(page: &mut Page, file: SourceFile<'_>, fault: JsonFault) -> Result<(), AllocError> {
+fn explain_end(
+    page: &mut Page,
+    file: SourceFile<'_>,
+    fault: JsonFault,
+    expected: Expected,
+) -> Result<(), AllocError> {
     let end = end_of(file.bytes);
     if end == 0 {
-        return page.say(&["The file is empty."]);
+        page.say(&["The file ", file.name, " is empty."])?;
+        return page.say(&[expected.empty]);
     }
     page.show(file, byte_span(end))?;
     page.say(&[sentence(JsonFaultKind::Ends)])?;

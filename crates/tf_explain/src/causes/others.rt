@@ -1,11 +1,11 @@
 //! Types, states, limits and diagnostics.
 
 use crate::blocks::{
-    Address, block_at, block_count, declaration, declared_count, lifecycle_setting, read_address,
-    resource_type,
+    Address, block_at, block_count, declaration, declared_count, read_address, resource_type,
 };
-use crate::causes::json::explain_json;
-use crate::decoding::is_text;
+use crate::causes::json::{Expected, explain_json};
+use crate::causes::recorded::resource_record;
+use crate::causes::values::number_at;
 use crate::json_fault::json_fault;
 use crate::line::ErrorLine;
 use crate::near::Nearest;
@@ -21,6 +21,15 @@ const TYPES: [&str; 3] = ["sim_net", "sim_host", "local_file"];
 
 /// How many bytes a file may have.
 const MOST_BYTES: usize = 4_194_304;
+
+/// The version of a state's format that is read.
+const STATE_VERSION: u64 = 4;
+
+/// What is said of a state that isn't JSON.
+const STATE: Expected = Expected {
+    native: "A state is one JSON object.",
+    empty: "A state is one JSON object. Remove an empty file if nothing exists yet.",
+};
 
 /// How many declarations of each kind a configuration may have.
 const MOST_DECLARED: usize = 2000;
@@ -62,27 +71,6 @@ fn say_type(page: &mut Page, type_name: &str, sources: Sources<'_>) -> Result<()
     page.suggest(&["No provider has the type `", type_name, "`."], &nearest)
 }
 
-/// Explains that an object may not be destroyed.
-///
-/// # Errors
-///
-/// Fails only if memory runs out.
-pub(crate) fn explain_prevented(
-    page: &mut Page,
-    place: &str,
-    sources: Sources<'_>,
-) -> Result<(), AllocError> {
-    let config = sources.config;
-    if let Some(found) = block_at(config.bytes, place) {
-        let setting = lifecycle_setting(config.bytes, found, "prevent_destroy");
-        page.show(config, setting.unwrap_or(found).name)?;
-    }
-    page.say(&[
-        "The plan would destroy or replace this object, and `prevent_destroy` forbids it.",
-    ])?;
-    page.say(&["Undo the change that replaces it, or remove `prevent_destroy`."])
-}
-
 /// Explains a state that is none, or an object in it that doesn't fit its type.
 ///
 /// # Errors
@@ -100,7 +88,9 @@ pub(crate) fn explain_state(
         return explain_record(page, place, state);
     }
     if json_fault(page.alloc, state.bytes)?.is_some() {
-        explain_json(page, state, "A state is one JSON object.")?;
+        explain_json(page, state, STATE)?;
+    } else if explain_version(page, state)? {
+        return Ok(());
     } else {
         explain_format(page, state)?;
     }
@@ -109,6 +99,28 @@ pub(crate) fn explain_state(
         state.name,
         ".backup, if there is one.",
     ])
+}
+
+/// Explains that a state has another version than the one that is read. Returns whether it has.
+fn explain_version(page: &mut Page, state: SourceFile<'_>) -> Result<bool, AllocError> {
+    let Some(version) = member_named(state.bytes, top(state.bytes), "version") else {
+        return Ok(false);
+    };
+    let found = match number_at(state.bytes, version.value) {
+        Some(number) if number != STATE_VERSION => number,
+        _ => return Ok(false),
+    };
+    page.show(state, version.value)?;
+    let sentence = format!(in page.alloc;
+        "The version of this state is {found}. Only version {STATE_VERSION} is read here."
+    )?;
+    page.say(&[sentence.as_str()])?;
+    page.say(&[if found > STATE_VERSION {
+        "Another program wrote it, or a newer version of this one. Use that one, or the state of another file (--state FILE)."
+    } else {
+        "An old version of Terraform wrote it. A newer one that reads it also writes version 4."
+    }])?;
+    Ok(true)
 }
 
 /// Explains which property of a state isn't as the format has it, as far as that is easy to see.
@@ -148,16 +160,13 @@ fn record_at(
     address: Address<'_>,
     state: SourceFile<'_>,
 ) -> Result<Option<Span>, AllocError> {
-    let resources = find(alloc, state.bytes, "resources")?;
-    for record in &items(alloc, state.bytes, resources.value)? {
-        if has_text(state.bytes, *record, "type", address.type_name)
-            && has_text(state.bytes, *record, "name", address.name)
-        {
-            let found = attribute_at(alloc, state.bytes, *record, address.attribute)?;
-            return Ok(Some(found));
+    match resource_record(alloc, address.type_name, address.name, state)? {
+        Some(record) => {
+            let found = attribute_at(alloc, state.bytes, record, address.attribute)?;
+            Ok(Some(found))
         }
+        None => Ok(None),
     }
-    Ok(None)
 }
 
 /// Finds an attribute in a record: in the first instance that has it. If none has it, returns the first byte of the record.
@@ -176,14 +185,6 @@ fn attribute_at(alloc: Global, text: &[u8], record: Span, name: &str) -> Result<
 fn attribute_of(text: &[u8], instance: Span, name: &str) -> Option<Member> {
     let attributes = member_named(text, instance, "attributes")?;
     member_named(text, attributes.value, name)
-}
-
-/// Returns whether a property of an object is a text.
-fn has_text(text: &[u8], object: Span, name: &str, wanted: &str) -> bool {
-    match member_named(text, object, name) {
-        Some(member) => is_text(text, member.value, wanted),
-        None => false,
-    }
 }
 
 /// Explains which limit is exceeded.

@@ -3,11 +3,15 @@
 use crate::blocks::section;
 use crate::causes::shape_bodies::{body_shape, output_shape, variable_shape};
 use crate::page::Page;
-use crate::positions::{find, top};
+use crate::positions::{find, member_named, split_name, top};
 use crate::sources::{SourceFile, Sources};
 use crate::span::{Span, byte_at, find_bytes, first_byte};
 use std::alloc::{AllocError, Global};
 use tf_config_address::is_name;
+
+/// What a name is.
+const NAMES: &str =
+    "A name begins with a letter or `_`, and has only letters, digits, `_` and `-`.";
 
 /// The blocks of a configuration.
 const BLOCKS: [&str; 4] = ["resource", "variable", "locals", "output"];
@@ -92,21 +96,59 @@ pub(crate) fn explain_shape(
         page.show(config, first_byte(top(config.bytes)))?;
         return page.say(&["A configuration is one object: { .. }."]);
     }
-    let (first, rest) = place.split_once(".").unwrap_or((place, ""));
-    if section(config.bytes, first).is_none() {
-        return variables_shape(page, place, sources);
+    if let Some(name) = empty_name(page.alloc, config, place)? {
+        page.show(config, name)?;
+        return page.say(&["A name can't be empty. ", NAMES]);
     }
+    let (first, rest) = split_name(page.alloc, config.bytes, top(config.bytes), place)?;
+    let Some(found) = section(config.bytes, first) else {
+        return variables_shape(page, place, sources);
+    };
     let spot = spot_at(page.alloc, config, place)?;
     if rest.is_empty() {
         return section_shape(page, first, spot);
     }
     match first {
-        "resource" => resource_shape(page, rest, spot),
-        "variable" => variable_shape(page, rest, spot),
-        "output" => output_shape(page, rest, spot),
-        "locals" if !rest.contains(".") => named_shape(page, rest, spot),
+        "resource" => resource_shape(page, rest, found.value, spot),
+        "variable" | "output" | "locals" => declared_shape(page, first, rest, found.value, spot),
         _ => explain_number(page, spot),
     }
+}
+
+/// Explains a fault below a section of declarations.
+fn declared_shape(
+    page: &mut Page,
+    first: &str,
+    rest: &str,
+    names: Span,
+    spot: Spot<'_>,
+) -> Result<(), AllocError> {
+    let (name, property) = split_name(page.alloc, spot.file.bytes, names, rest)?;
+    match first {
+        "variable" => variable_shape(page, name, property, spot),
+        "output" => output_shape(page, name, property, spot),
+        _ if property.is_empty() => named_shape(page, name, spot),
+        _ => explain_number(page, spot),
+    }
+}
+
+/// Returns where the last name of a path is, if it is an empty one that has to be a name.
+fn empty_name(
+    alloc: Global,
+    config: SourceFile<'_>,
+    place: &str,
+) -> Result<Option<Span>, AllocError> {
+    if place.is_empty() {
+        return Ok(section(config.bytes, "").map(|member| member.name));
+    }
+    let Some(outer) = place.strip_suffix(".") else {
+        return Ok(None);
+    };
+    let found = find(alloc, config.bytes, outer)?;
+    if !found.rest.is_empty() {
+        return Ok(None);
+    }
+    Ok(member_named(config.bytes, found.value, "").map(|member| member.name))
 }
 
 /// Finds a place in a file.
@@ -158,11 +200,7 @@ fn section_shape(page: &mut Page, name: &str, spot: Spot<'_>) -> Result<(), Allo
 /// Explains that a name is none.
 fn say_no_name(page: &mut Page, name: &str, spot: Spot<'_>) -> Result<(), AllocError> {
     spot.show_name(page)?;
-    page.say(&[
-        "`",
-        name,
-        "` isn't a name. A name begins with a letter or `_`, and has only letters, digits, `_` and `-`.",
-    ])
+    page.say(&["`", name, "` isn't a name. ", NAMES])
 }
 
 /// Explains that a name is none, or else that a value is no object.
@@ -244,13 +282,29 @@ fn is_interpolated(text: &[u8], name: Option<Span>) -> bool {
 }
 
 /// Explains a fault below `resource`.
-fn resource_shape(page: &mut Page, rest: &str, spot: Spot<'_>) -> Result<(), AllocError> {
-    let (type_name, rest) = rest.split_once(".").unwrap_or((rest, ""));
+fn resource_shape(
+    page: &mut Page,
+    rest: &str,
+    types: Span,
+    spot: Spot<'_>,
+) -> Result<(), AllocError> {
+    let text = spot.file.bytes;
+    let (type_name, rest) = split_name(page.alloc, text, types, rest)?;
+    let Some(found) = member_named(text, types, type_name) else {
+        return type_shape(page, type_name, spot);
+    };
     if rest.is_empty() {
         return type_shape(page, type_name, spot);
     }
-    let (name, property) = rest.split_once(".").unwrap_or((rest, ""));
-    body_shape(page, name, property, spot)
+    let (name, property) = split_name(page.alloc, text, found.value, rest)?;
+    let Some(block) = member_named(text, found.value, name) else {
+        return body_shape(page, name, "", "", spot);
+    };
+    if property.is_empty() {
+        return body_shape(page, name, "", "", spot);
+    }
+    let (argument, deeper) = split_name(page.alloc, text, block.value, property)?;
+    body_shape(page, name, argument, deeper, spot)
 }
 
 /// Explains a fault at a type.

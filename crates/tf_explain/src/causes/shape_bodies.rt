@@ -1,7 +1,10 @@
 //! What the format doesn't allow in the bodies of blocks.
 
+use crate::blocks::add_names;
+use crate::causes::arguments::say_mistyped;
 use crate::causes::shape::{Spot, explain_no_object, explain_number, named_shape, object_shape};
 use crate::decoding::text_in;
+use crate::near::Nearest;
 use crate::page::Page;
 use crate::positions::member_named;
 use std::alloc::AllocError;
@@ -67,26 +70,24 @@ const TYPES: [&str; 12] = [
     "map(bool)",
 ];
 
-/// Explains a fault in the block of a resource, at one of its properties if there is one.
+/// Explains a fault in the block of a resource, at one of its properties if there is one, and deeper in that.
 ///
 /// # Errors
 ///
 /// Fails only if memory runs out.
-pub(crate) fn body_shape<'a>(
+pub(crate) fn body_shape(
     page: &mut Page,
-    name: &'a str,
-    property: &'a str,
+    name: &str,
+    property: &str,
+    deeper: &str,
     spot: Spot<'_>,
 ) -> Result<(), AllocError> {
-    if property.is_empty() {
-        return block_shape(page, name, spot);
-    }
-    let (first, rest) = property.split_once(".").unwrap_or((property, ""));
-    match first {
-        "lifecycle" => lifecycle_shape(page, rest, spot),
-        "depends_on" => depends_shape(page, rest, spot),
-        _ if !rest.is_empty() => explain_number(page, spot),
-        _ => argument_shape(page, first, spot),
+    match property {
+        "" => block_shape(page, name, spot),
+        "lifecycle" => lifecycle_shape(page, deeper, spot),
+        "depends_on" => depends_shape(page, deeper, spot),
+        _ if !deeper.is_empty() => explain_number(page, spot),
+        _ => argument_shape(page, property, spot),
     }
 }
 
@@ -169,17 +170,17 @@ fn unknown_property<'a>(
     )
 }
 
-/// Explains a fault in a variable.
+/// Explains a fault in a variable, at one of its properties if there is one.
 ///
 /// # Errors
 ///
 /// Fails only if memory runs out.
 pub(crate) fn variable_shape(
     page: &mut Page,
-    rest: &str,
+    name: &str,
+    property: &str,
     spot: Spot<'_>,
 ) -> Result<(), AllocError> {
-    let (name, property) = rest.split_once(".").unwrap_or((rest, ""));
     let (first, deeper) = property.split_once(".").unwrap_or((property, ""));
     match first {
         "" => object_shape(page, VARIABLE.what, name, spot),
@@ -223,13 +224,17 @@ fn explain_description(page: &mut Page, spot: Spot<'_>) -> Result<(), AllocError
     page.say(&["A description has to be a text."])
 }
 
-/// Explains a fault in an output.
+/// Explains a fault in an output, at one of its properties if there is one.
 ///
 /// # Errors
 ///
 /// Fails only if memory runs out.
-pub(crate) fn output_shape(page: &mut Page, rest: &str, spot: Spot<'_>) -> Result<(), AllocError> {
-    let (name, property) = rest.split_once(".").unwrap_or((rest, ""));
+pub(crate) fn output_shape(
+    page: &mut Page,
+    name: &str,
+    property: &str,
+    spot: Spot<'_>,
+) -> Result<(), AllocError> {
     let (first, _) = property.split_once(".").unwrap_or((property, ""));
     match first {
         "" => output_body_shape(page, name, spot),
@@ -243,7 +248,22 @@ pub(crate) fn output_shape(page: &mut Page, rest: &str, spot: Spot<'_>) -> Resul
 fn output_body_shape(page: &mut Page, name: &str, spot: Spot<'_>) -> Result<(), AllocError> {
     if is_name(name) && spot.first() == b'{' {
         spot.show_name(page)?;
-        return page.say(&["The output `", name, "` needs a `value`."]);
+        page.say(&["The output `", name, "` needs a `value`."])?;
+        return suggest_value(page, spot);
     }
     object_shape(page, OUTPUT.what, name, spot)
+}
+
+/// Suggests `value` in place of a near name in an output.
+fn suggest_value(page: &mut Page, spot: Spot<'_>) -> Result<(), AllocError> {
+    let mut written: Vec<String> = Vec::new(page.alloc);
+    add_names(page.alloc, &mut written, spot.file.bytes, spot.value)?;
+    let mut nearest = Nearest::to(page.alloc, "value");
+    for other in &written {
+        nearest.consider(other.as_str())?;
+    }
+    match nearest.best() {
+        Some(other) => say_mistyped(page, "value", other, spot.file, spot.value),
+        None => Ok(()),
+    }
 }

@@ -1,7 +1,7 @@
 //! Where the parts of an expression are.
 
 use crate::causes::evaluation::ReadText;
-use crate::code::{find_in_code, list_in_code};
+use crate::code::{closing, find_in_code, list_in_code};
 use crate::page::Page;
 use crate::sources::SourceFile;
 use crate::span::Span;
@@ -18,10 +18,21 @@ pub(crate) struct Used<'t, 's> {
     pub(crate) term: &'t Term,
 }
 
+impl<'t, 's> Used<'t, 's> {
+    /// Returns a later part of the same text.
+    pub(crate) fn part(&self, later: usize, term: &'t Term) -> Used<'t, 's> {
+        Used {
+            text: self.text,
+            number: self.number.saturating_add(later),
+            term,
+        }
+    }
+}
+
 impl Used<'_, '_> {
     /// Returns the configuration.
     fn config(&self) -> SourceFile<'_> {
-        self.text.sources.config
+        self.text.scope.sources.config
     }
 
     /// Returns where a word of an expression is, behind a given number of earlier ones.
@@ -49,11 +60,33 @@ impl Used<'_, '_> {
         Ok(self.word(address.as_str(), earlier))
     }
 
-    /// Returns where the last part of an operand is, such as `.b` in `var.m.a.b`. Of a reference, it returns where that is.
+    /// Returns where a call is, with its arguments.
+    fn call(&self, name: &str) -> Option<Span> {
+        let mut earlier = 0usize;
+        for term in self.text.terms.iter().take(self.number) {
+            if let Term::Call(other, _) = *term
+                && other.as_str() == name
+            {
+                earlier = earlier.saturating_add(1);
+            }
+        }
+        let found = self.word(name, earlier)?;
+        Some(Span {
+            start: found.start,
+            end: closing(self.config().bytes, self.text.span, found.end),
+        })
+    }
+
+    /// Returns where the last part of an operand is, such as `.b` in `var.m.a.b`. Of a reference or a call, it returns where that is.
     #[cycle(steps)]
     pub(crate) fn step(&self, page: &Page, term: &Term) -> Result<Option<Span>, AllocError> {
         match term {
             Term::Reference(reference) => self.reference(page, reference),
+            Term::Call(name, _) => Ok(self.call(name.as_str())),
+            Term::Group(inner) => {
+                let found = self.step(page, inner)?;
+                Ok(self.after(found, ")"))
+            }
             Term::Attribute(inner, name) => {
                 let found = self.step(page, inner)?;
                 let name = name.as_str();

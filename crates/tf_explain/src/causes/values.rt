@@ -1,11 +1,12 @@
 //! Values that the files show.
 
 use crate::blocks::declaration;
-use crate::positions::{is_comment, items, member_named, top};
+use crate::decoding::is_text;
+use crate::page::Page;
+use crate::positions::{Member, is_comment, items, member_named, top};
 use crate::sources::{SourceFile, Sources};
 use crate::span::{Span, byte_at, bytes_in, is_literal};
 use std::alloc::{AllocError, Global};
-use tf_expr_syntax::{Reference, Term};
 
 pub(crate) const TEXT: &str = "a text";
 
@@ -17,107 +18,186 @@ pub(crate) const LIST: &str = "a list";
 
 pub(crate) const MAP: &str = "a map";
 
+pub(crate) const SET: &str = "a set";
+
 pub(crate) const NULL: &str = "null";
 
-/// Returns the value that an operand has as JSON, if the files show it: its file and its range. The operand is a variable or a
-/// local, or a part of one by literal names and numbers.
+/// How a value is written in a file.
+#[derive(Clone, Copy, PartialEq, Eq)]
+pub(crate) enum Written {
+    /// Its texts are no templates: the value of a variable.
+    Literally,
+    /// The type of the variable makes texts of its elements that are numbers or truth values.
+    AsElements,
+    /// The type of the variable makes a text of it if it is a number or a truth value.
+    AsText,
+    /// Its texts are templates: a local.
+    AsExpression,
+    /// Its texts are templates: an argument of a resource.
+    AsArgument,
+    /// It is null, since a block leaves the argument out. The place is the name of the block.
+    LeftOut,
+}
+
+/// A value that a file shows.
+#[derive(Clone, Copy)]
+pub(crate) struct Shown<'s> {
+    pub(crate) file: SourceFile<'s>,
+    pub(crate) span: Span,
+    pub(crate) written: Written,
+}
+
+impl<'s> Shown<'s> {
+    /// Returns the value of an expression in the configuration.
+    pub(crate) fn expression(config: SourceFile<'s>, span: Span) -> Shown<'s> {
+        Shown {
+            file: config,
+            span,
+            written: Written::AsExpression,
+        }
+    }
+
+    /// Returns a value in a file whose texts are no templates.
+    pub(crate) fn literal(file: SourceFile<'s>, span: Span) -> Shown<'s> {
+        Shown {
+            file,
+            span,
+            written: Written::Literally,
+        }
+    }
+
+    /// Returns the first byte of the value.
+    pub(crate) fn first(self) -> u8 {
+        byte_at(self.file.bytes, self.span.start)
+    }
+
+    /// Returns of which kind the value is, in words, or nothing for a text that has an interpolation.
+    pub(crate) fn kind(self) -> Option<&'static str> {
+        let is_null = self.first() == b'n';
+        match self.written {
+            Written::LeftOut => Some(NULL),
+            Written::AsText if !is_null => Some(TEXT),
+            Written::Literally | Written::AsElements if self.first() == b'"' => Some(TEXT),
+            _ => kind_at(self.file.bytes, self.span),
+        }
+    }
+
+    /// Returns whether the type of the variable makes a text of a number or a truth value.
+    pub(crate) fn is_made_a_text(self) -> bool {
+        self.written == Written::AsText && self.first() != b'"' && self.first() != b'n'
+    }
+
+    /// Returns an element of the value.
+    fn element(self, span: Span) -> Shown<'s> {
+        let written = match self.written {
+            Written::AsElements => Written::AsText,
+            other => other,
+        };
+        Shown {
+            file: self.file,
+            span,
+            written,
+        }
+    }
+
+    /// Returns the value at a key, if this is a map. A comment is none.
+    pub(crate) fn at_key(self, key: &str) -> Option<Shown<'s>> {
+        let member = member_named(self.file.bytes, self.span, key)?;
+        if is_comment(self.file.bytes, member) {
+            return None;
+        }
+        Some(self.element(member.value))
+    }
+
+    /// Returns the value at an index, if this is a list.
+    ///
+    /// # Errors
+    ///
+    /// Fails only if memory runs out.
+    pub(crate) fn at_index(
+        self,
+        alloc: Global,
+        index: u64,
+    ) -> Result<Option<Shown<'s>>, AllocError> {
+        let Ok(position) = usize::try_from(index) else {
+            return Ok(None);
+        };
+        let item = items(alloc, self.file.bytes, self.span)?
+            .get(position)
+            .copied();
+        Ok(item.map(|span| self.element(span)))
+    }
+
+    /// Returns the first element of which the kind is known and isn't among some, if this is a list.
+    ///
+    /// # Errors
+    ///
+    /// Fails only if memory runs out.
+    pub(crate) fn first_other(
+        self,
+        alloc: Global,
+        wanted: &[&str],
+    ) -> Result<Option<Shown<'s>>, AllocError> {
+        for item in &items(alloc, self.file.bytes, self.span)? {
+            let element = self.element(*item);
+            if let Some(kind) = element.kind()
+                && !wanted.contains(&kind)
+            {
+                return Ok(Some(element));
+            }
+        }
+        Ok(None)
+    }
+}
+
+/// Shows a value, after a line that says what it is.
 ///
 /// # Errors
 ///
 /// Fails only if memory runs out.
-#[cycle(values)]
-pub(crate) fn value_of<'a>(
-    alloc: Global,
-    term: &Term,
-    sources: Sources<'a>,
-) -> Result<Option<(SourceFile<'a>, Span)>, AllocError> {
-    match term {
-        Term::Reference(reference) => Ok(value_of_reference(reference, sources)),
-        Term::Attribute(inner, name) => match value_of(alloc, inner, sources)? {
-            Some((file, map)) => Ok(at_key(file, map, name.as_str())),
-            None => Ok(None),
-        },
-        Term::Index(inner, place) => match value_of(alloc, inner, sources)? {
-            Some((file, value)) => at_place(alloc, file, value, place),
-            None => Ok(None),
-        },
-        _ => Ok(None),
-    }
+pub(crate) fn show_value(page: &mut Page, shown: Shown<'_>) -> Result<(), AllocError> {
+    page.show(shown.file, shown.span)
 }
 
-/// Returns the value of a variable or a local as JSON: its file and its range.
-fn value_of_reference<'a>(
-    reference: &Reference,
-    sources: Sources<'a>,
-) -> Option<(SourceFile<'a>, Span)> {
-    let name = reference.name.as_str();
-    match reference.first.as_str() {
-        "local" => {
-            let local = declaration(sources.config.bytes, "locals", name)?;
-            Some((sources.config, local.value))
-        }
-        "var" => value_of_variable(name, sources),
-        _ => None,
-    }
-}
-
-/// Returns the value of a variable as JSON, in the variables file or else as its default: its file and its range.
-pub(crate) fn value_of_variable<'a>(
-    name: &str,
-    sources: Sources<'a>,
-) -> Option<(SourceFile<'a>, Span)> {
+/// Returns the value of a variable, in the variables file or else as its default.
+pub(crate) fn value_of_variable<'s>(name: &str, sources: Sources<'s>) -> Option<Shown<'s>> {
+    let config = sources.config;
+    let variable = declaration(config.bytes, "variable", name);
+    let written = match variable {
+        Some(variable) => written_by_type(config.bytes, variable),
+        None => Written::Literally,
+    };
     if let Some(vars) = sources.vars {
         if let Some(given) = member_named(vars.bytes, top(vars.bytes), name) {
-            return Some((vars, given.value));
+            return Some(Shown {
+                file: vars,
+                span: given.value,
+                written,
+            });
         }
     }
-    let config = sources.config;
-    let variable = declaration(config.bytes, "variable", name)?;
-    let default = member_named(config.bytes, variable.value, "default")?;
-    Some((config, default.value))
+    let default = member_named(config.bytes, variable?.value, "default")?;
+    Some(Shown {
+        file: config,
+        span: default.value,
+        written,
+    })
 }
 
-/// Returns the value at a key of a map that is written out. A comment is none.
-pub(crate) fn at_key<'a>(
-    file: SourceFile<'a>,
-    map: Span,
-    key: &str,
-) -> Option<(SourceFile<'a>, Span)> {
-    let member = member_named(file.bytes, map, key)?;
-    if is_comment(file.bytes, member) {
-        return None;
-    }
-    Some((file, member.value))
-}
-
-/// Returns the value at a literal key or index of a map or a list that is written out.
-fn at_place<'a>(
-    alloc: Global,
-    file: SourceFile<'a>,
-    value: Span,
-    place: &Term,
-) -> Result<Option<(SourceFile<'a>, Span)>, AllocError> {
-    match place {
-        Term::Number(index) => at_index(alloc, file, value, *index),
-        Term::Quoted(template) if template.parts.is_empty() => {
-            Ok(at_key(file, value, template.last.as_str()))
-        }
-        _ => Ok(None),
-    }
-}
-
-/// Returns the value at an index of a list that is written out.
-fn at_index<'a>(
-    alloc: Global,
-    file: SourceFile<'a>,
-    list: Span,
-    index: u64,
-) -> Result<Option<(SourceFile<'a>, Span)>, AllocError> {
-    let Ok(position) = usize::try_from(index) else {
-        return Ok(None);
+/// Returns how the value of a variable is written, by its declared type.
+fn written_by_type(config: &[u8], variable: Member) -> Written {
+    let Some(declared) = member_named(config, variable.value, "type") else {
+        return Written::Literally;
     };
-    let item = items(alloc, file.bytes, list)?.get(position).copied();
-    Ok(item.map(|span| (file, span)))
+    if is_text(config, declared.value, "string") {
+        return Written::AsText;
+    }
+    for name in ["list(string)", "map(string)"] {
+        if is_text(config, declared.value, name) {
+            return Written::AsElements;
+        }
+    }
+    Written::Literally
 }
 
 /// Returns of which kind the value in a range of a file is, in words, or nothing for a text that has an interpolation.
@@ -130,29 +210,6 @@ pub(crate) fn kind_at(text: &[u8], value: Span) -> Option<&'static str> {
         b'-' | b'0'..=b'9' => Some(NUMBER),
         _ if is_literal(text, value) => Some(TEXT),
         _ => None,
-    }
-}
-
-/// Returns of which kind an operand is, in words, if the expression or the files show it.
-///
-/// # Errors
-///
-/// Fails only if memory runs out.
-pub(crate) fn kind_of(
-    alloc: Global,
-    term: &Term,
-    sources: Sources<'_>,
-) -> Result<Option<&'static str>, AllocError> {
-    match term {
-        Term::Number(_) => Ok(Some(NUMBER)),
-        Term::Truth(_) => Ok(Some(TRUTH)),
-        Term::Null => Ok(Some(NULL)),
-        Term::List(_) => Ok(Some(LIST)),
-        Term::Quoted(template) if template.parts.is_empty() => Ok(Some(TEXT)),
-        _ => match value_of(alloc, term, sources)? {
-            Some((file, span)) => Ok(kind_at(file.bytes, span)),
-            None => Ok(None),
-        },
     }
 }
 
