@@ -1,7 +1,7 @@
 use Rattle.std.proofs.Common.{map}
 use Rattle.tf_provider_log.specs.LogEntry.{log_entry_of}
 use Rattle.tf_provider_remote.specs.Types.{remote_meaning, type_of}
-use Rattle.tf_session.proofs.Replaying.{outside_together}
+use Rattle.tf_session.proofs.Together.{outside_together}
 use Rattle.tf_session.proofs.replaying.noted_providers.Goals as goal
 
 pub returns : goal.returns
