@@ -10,7 +10,7 @@ use Rattle.tf_cli_text.specs.declared.applied.Applied.{Applied}
 use Rattle.tf_plan_planner.specs.Refused.{Tells}
 use Rattle.tf_plan_planner.specs.declared.refused.Refused.{Refused}
 use Rattle.tf_provider_protocol.specs.Meaning.{Meaning}
-use Rattle.tf_recovery.specs.Outside.{IsOutcome}
+use Rattle.tf_recovery.specs.Outcome.{IsOutcome}
 
 the_same : (given : ProgramInput) (config : List ℕ) (vars state : Option (List ℕ)) → config ≡ given.config.items → vars ≡ option_map (λ bytes. bytes.items) given.vars
     → state ≡ option_map (λ bytes. bytes.items) given.state → the_texts config vars state ≡ texts_of given

@@ -1,3 +1,1 @@
-pub mod Begun
-pub mod Outside
-pub mod Repeated
+pub mod Outcome

@@ -1,17 +1,13 @@
 //! The work of `apply`.
 
 use crate::approving::AtTerminal;
-use crate::carrying::check_pipes;
 use crate::explaining::{end_early, explains, print_log_cause, sources, warn};
 use crate::failures::failure_lines;
 use crate::outside::apply_outside;
 use crate::planning::check_forms;
 use crate::recovering::recover;
-use crate::remotes::read_types;
-use crate::repeating::repeat_idempotent;
 use crate::reporting::{begin_events, call_events, end_events, writer};
 use crate::settling::settle;
-use crate::watched::{WatchedProviders, watched_providers};
 use std::alloc::AllocError;
 use std::fs::File;
 use std::io;
@@ -30,6 +26,7 @@ use tf_explain::Explained;
 use tf_provider::Provider;
 use tf_provider_log::LogEntry;
 use tf_provider_remote::RemoteTypes;
+use tf_session::{WatchedProviders, check_pipes, read_types, repeat_idempotent, watched_providers};
 
 /// Recovers an unfinished apply, if there is one, then applies, and returns the program's status. With `--json`, standard output
 /// has what happens as JSON, one event a line.

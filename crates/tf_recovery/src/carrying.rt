@@ -3,11 +3,10 @@
 ghost use Rattle.std.specs.Prelude.{◌≡◌, IfOk, map};
 ghost use Rattle.tf_provider_log.specs.LogEntry.{log_entry_of};
 ghost use Rattle.tf_cli.specs.Applies.{MayStart};
-ghost use Rattle.tf_recovery.specs.Outside.{IsOutcome, outside_meanings, outside_replayed};
+ghost use Rattle.tf_recovery.specs.Outcome.{IsOutcome};
+ghost use Rattle.tf_session.specs.Outside.{outside_meanings, outside_replayed};
 ghost use Rattle.tf_walk_action.specs.Words.{plan_of};
 
-use crate::pipes::Pipe;
-use crate::session::{ApplyLog, Session};
 use crate::walking::{Walk, apply_over_log, requests_over_log};
 use std::alloc::AllocError;
 use std::fs::File;
@@ -21,6 +20,7 @@ use tf_plan_data::Planned;
 use tf_provider::Provider;
 use tf_provider_protocol::Request;
 use tf_provider_remote::RemoteTypes;
+use tf_session::{ApplyLog, Session};
 
 /// Applies what was given, whose plan this is: makes the calls that the log doesn't answer, until it answers all that are asked for.
 pub(crate) fn carried_out<T: Wait, E: Write>(
@@ -44,8 +44,8 @@ pub(crate) fn carried_out<T: Wait, E: Write>(
                 let Walk { answer, unanswered } = apply_over_log(
                     rt,
                     given,
-                    &session.types,
-                    &session.entries,
+                    session.types(),
+                    session.entries(),
                 )?;
                 if session.is_finished(&unanswered) {
                     return Ok(answer);
@@ -69,10 +69,10 @@ fn calls_to_make(
 ) -> Result<Option<Vec<Request>>, AllocError>
     requires { MayStart (outside_meanings (⟦<RemoteTypes as Provider>⟧.meaning types.now)) (plan_of planned.now) }
 {
-    if session.entries.len() >= planned.plan.actions.len() {
+    if session.entries().len() >= planned.plan.actions.len() {
         return Ok(None);
     }
-    let unanswered = requests_over_log(rt, planned, types, &session.entries)?;
+    let unanswered = requests_over_log(rt, planned, types, session.entries())?;
     if session.is_finished(&unanswered) {
         return Ok(None);
     }
@@ -94,7 +94,7 @@ pub(crate) fn finish<O: Write, E: Write>(
     err: &mut E,
 ) -> ExitCode {
     let _ = log.sync();
-    if session.flights.is_empty() || log.is_lost() {
+    if session.flights().is_empty() || log.is_lost() {
         print_flights(rt, session, err);
         let explains = given.options.explain;
         return end_apply(rt, place, file, log, explains, answer, printed, out, err);
@@ -110,9 +110,9 @@ pub(crate) fn finish<O: Write, E: Write>(
 
 /// Returns whether all requests in flight are of idempotent types.
 fn are_repeated(session: &Session) -> bool {
-    for flight in session.flights.list() {
+    for flight in session.flights().list() {
         if !session
-            .types
+            .types()
             .is_idempotent(flight.request.type_name.as_str())
         {
             return false;
@@ -133,44 +133,7 @@ fn print_repeated<E: Write>(place: &Place, err: &mut E) -> ExitCode {
 
 /// Prints which requests are in flight.
 fn print_flights<E: Write>(rt: &HostRuntime, session: &Session, err: &mut E) {
-    for flight in session.flights.list() {
+    for flight in session.flights().list() {
         print_call_in_flight(rt.alloc(), &flight.request, err);
     }
-}
-
-/// Opens the pipes of each provider, in their order. If one can't be opened, prints that.
-pub(crate) fn open_pipes<E: Write>(
-    rt: &HostRuntime,
-    folders: &[String],
-    err: &mut E,
-) -> Result<Result<Vec<Pipe>, ExitCode>, AllocError> {
-    let mut pipes = Vec::new(rt.alloc());
-    for folder in folders {
-        match Pipe::open(rt, folder.as_str()) {
-            Ok(pipe) => pipes.push(pipe)?,
-            Err(_) => return Ok(Err(print_no_pipes(folder.as_str(), err))),
-        }
-    }
-    Ok(Ok(pipes))
-}
-
-/// Checks that each folder has both pipes. If one hasn't, prints that.
-pub(crate) fn check_pipes<E: Write>(
-    rt: &HostRuntime,
-    folders: &[String],
-    err: &mut E,
-) -> Result<(), ExitCode> {
-    for folder in folders {
-        match Pipe::is_in(rt, folder.as_str()) {
-            Ok(true) => {}
-            _ => return Err(print_no_pipes(folder.as_str(), err)),
-        }
-    }
-    Ok(())
-}
-
-/// Prints that a folder doesn't have the two pipes of a provider.
-fn print_no_pipes<E: Write>(folder: &str, err: &mut E) -> ExitCode {
-    let _ = writeln!(err, "error: {folder}: no pipes named requests and replies");
-    ExitCode::FAILURE
 }

@@ -1,10 +1,9 @@
 //! Explained errors.
 
 use std::fs::File;
-use std::io;
 use std::io::{IsTerminal, Write};
 use std::process::ExitCode;
-use tf_cli_files::{CallControl, Ending, Place, ProgramInput, print_cause, print_unread};
+use tf_cli_files::{CallControl, Ending, Place, ProgramInput, print_cause};
 use tf_cli_options::Options;
 use tf_explain::{SourceFile, Sources, warnings};
 use tf_provider::Provider;
@@ -21,14 +20,6 @@ pub(crate) fn end_early<E: Write>(ending: Ending, explains: bool, err: &mut E) -
         print_cause(cause, explains, err);
     }
     ending.status
-}
-
-/// Prints that a file can't be read, and returns the program's end, with the error of the system.
-pub(crate) fn unread<E: Write>(name: &str, error: io::Error, err: &mut E) -> Ending {
-    Ending {
-        status: print_unread(name, err),
-        cause: Some(error),
-    }
 }
 
 /// Prints the error of the system because of which the log of an apply can't be written, if there is one and errors are explained.

@@ -2,14 +2,13 @@
 
 ghost use Rattle.std.specs.Prelude.{◌≡◌, map};
 ghost use Rattle.tf_cli.specs.Applies.{MayStart};
-ghost use Rattle.tf_recovery.specs.Outside.{outside_meanings};
+ghost use Rattle.tf_session.specs.Outside.{outside_meanings};
 ghost use Rattle.tf_walk_action.specs.Words.{plan_of};
 
-use crate::carrying::{carried_out, finish, open_pipes};
+use crate::carrying::{carried_out, finish};
 use crate::explaining::{print_log_cause, sources, warn};
 use crate::printing::{PrintedPlan, approved_plan};
 use crate::reporting::call_events;
-use crate::session::{ApplyLog, Session};
 use std::fs::File;
 use std::io;
 use std::io::Write;
@@ -24,6 +23,7 @@ use tf_provider::Provider;
 use tf_provider_local::LocalFile;
 use tf_provider_remote::RemoteTypes;
 use tf_provider_sim::Sim;
+use tf_session::{ApplyLog, Session, open_pipes};
 
 /// Applies with providers outside the program, after a recovery, and returns the program's status.
 pub(crate) fn apply_outside<T: Wait, O: Write, E: Write>(

@@ -3,7 +3,6 @@
 use crate::approving::colours;
 use crate::explaining::{end_early, explains, sources, warn};
 use crate::recovering::preview;
-use crate::remotes::read_types;
 use std::io;
 use std::io::Write;
 use std::process::ExitCode;
@@ -14,6 +13,7 @@ use tf_explain::Explained;
 use tf_provider::Provider;
 use tf_provider_local::LocalFile;
 use tf_provider_sim::Sim;
+use tf_session::read_types;
 
 /// Prints the plan from the state file, or from the state that an unfinished apply left, and returns the program's status.
 ///

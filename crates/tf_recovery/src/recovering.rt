@@ -1,12 +1,11 @@
 //! Recovery of an unfinished apply, with providers that answer from its log.
 
-ghost use Rattle.std.specs.Prelude.{◌≡◌, ◌∷◌, [], None, IsOk, IfErr, IfOk, IfSome, map};
+ghost use Rattle.std.specs.Prelude.{◌≡◌, None, IsOk, IfErr, IfOk, IfSome, map};
 ghost use Rattle.tf_cli_files.specs.Program.{IsFailure};
 ghost use Rattle.tf_cli_program.specs.Recovery.{ContinuesFrom, IsInspected};
 ghost use Rattle.tf_provider_log.specs.LogEntry.{log_entry_of};
-ghost use Rattle.tf_recovery.specs.Outside.{outside_replayed};
+ghost use Rattle.tf_session.specs.Outside.{outside_replayed};
 
-use crate::own::{OwnEntries, entries_by_provider};
 use std::alloc::AllocError;
 use std::fs::File;
 use std::io::Write;
@@ -14,10 +13,9 @@ use std::process::ExitCode;
 use tf_cli_files::{Place, ProgramInput, UnfinishedApply};
 use tf_cli_program::{finish_recovery, preview_recovery};
 use tf_provider::Provider;
-use tf_provider_local::LocalFile;
-use tf_provider_log::{LogEntry, Replayed};
+use tf_provider_log::LogEntry;
 use tf_provider_remote::RemoteTypes;
-use tf_provider_sim::Sim;
+use tf_session::{ReplayedProviders, replayed_providers};
 
 /// Recovers the state that an unfinished apply left, if there is one, and plans from it: `given` then has that state in place of
 /// its own. The providers outside the program have these types. Writes no file. Returns the program's status, 1, if the program
@@ -145,28 +143,4 @@ fn recover_by<O: Write, E: Write>(
         out,
         err,
     ))
-}
-
-/// The providers of a recovery: each answers from its own entries of the log.
-struct ReplayedProviders {
-    remote: Replayed<RemoteTypes>,
-    sim: Replayed<Sim>,
-    files: Replayed<LocalFile<HostRuntime>>,
-}
-
-/// Returns the providers of a recovery.
-fn replayed_providers(
-    rt: &HostRuntime,
-    types: &RemoteTypes,
-    entries: Vec<LogEntry>,
-) -> Result<ReplayedProviders, AllocError>
-    ensures { IfOk result (λ by. ⟦<Replayed<RemoteTypes> as Provider>⟧.meaning by.remote ∷ ⟦<Replayed<Sim> as Provider>⟧.meaning by.sim ∷ ⟦<Replayed<LocalFile<HostRuntime>> as Provider>⟧.meaning by.files ∷ []
-        ≡ outside_replayed (⟦<RemoteTypes as Provider>⟧.meaning types.now) (map log_entry_of entries.items)) }
-{
-    let alloc = rt.alloc();
-    let OwnEntries { remote, sim, files } = entries_by_provider(rt, types, entries)?;
-    let remote = Replayed::new(alloc, remote, types.share()?);
-    let sim = Replayed::new(alloc, sim, Sim::new(alloc)?);
-    let files = Replayed::new(alloc, files, LocalFile::new(alloc, *rt)?);
-    Ok(ReplayedProviders { remote, sim, files })
 }

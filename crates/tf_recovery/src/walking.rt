@@ -1,23 +1,21 @@
 //! An apply by providers that answer from a log, with what they are asked for besides.
 
-ghost use Rattle.std.specs.Prelude.{◌≡◌, ◌∷◌, [], IfOk, map};
+ghost use Rattle.std.specs.Prelude.{IfOk, map};
 ghost use Rattle.tf_cli.specs.Applies.{MayStart};
 ghost use Rattle.tf_provider_log.specs.LogEntry.{log_entry_of};
-ghost use Rattle.tf_recovery.specs.Outside.{IsOutcome, outside_meanings, outside_replayed};
+ghost use Rattle.tf_recovery.specs.Outcome.{IsOutcome};
+ghost use Rattle.tf_session.specs.Outside.{outside_meanings, outside_replayed};
 ghost use Rattle.tf_walk_action.specs.Words.{plan_of};
 
-use crate::notes::{Noted, Notes};
-use crate::own::{OwnEntries, entries_by_provider};
-use std::alloc::{AllocError, Global};
+use std::alloc::AllocError;
 use tf_cli::{Applied, Refused, Report, Stop, Walked, apply_one, state_to_write};
 use tf_cli_files::ProgramInput;
 use tf_plan_data::Planned;
 use tf_provider::Provider;
-use tf_provider_local::LocalFile;
-use tf_provider_log::{LogEntry, copy_entries};
+use tf_provider_log::LogEntry;
 use tf_provider_protocol::Request;
 use tf_provider_remote::RemoteTypes;
-use tf_provider_sim::Sim;
+use tf_session::{NotedProviders, Notes, noted_providers};
 use tf_walk::run_one;
 
 /// The answer of an apply, and what it asked for that its log doesn't answer.
@@ -98,30 +96,4 @@ fn drop_report(walked: Walked) {
         excused: _,
         good: _,
     } = walked.into_report();
-}
-
-/// The providers of an apply over a log: each answers from its own entries, and notes the requests that these don't answer.
-struct NotedProviders {
-    remote: Noted<RemoteTypes>,
-    sim: Noted<Sim>,
-    files: Noted<LocalFile<HostRuntime>>,
-}
-
-/// Returns the providers of an apply over a log, with these notes.
-fn noted_providers(
-    rt: &HostRuntime,
-    types: &RemoteTypes,
-    entries: &[LogEntry],
-    notes: &Notes,
-) -> Result<NotedProviders, AllocError>
-    ensures { IfOk result (λ noted. ⟦<Noted<RemoteTypes> as Provider>⟧.meaning noted.remote ∷ ⟦<Noted<Sim> as Provider>⟧.meaning noted.sim ∷ ⟦<Noted<LocalFile<HostRuntime>> as Provider>⟧.meaning noted.files ∷ []
-        ≡ outside_replayed (⟦<RemoteTypes as Provider>⟧.meaning types.now) (map log_entry_of entries.now)) }
-{
-    let alloc = rt.alloc();
-    let copied = copy_entries(alloc, entries)?;
-    let OwnEntries { remote, sim, files } = entries_by_provider(rt, types, copied)?;
-    let remote = Noted::new(alloc, notes.share()?, remote, types.share()?);
-    let sim = Noted::new(alloc, notes.share()?, sim, Sim::new(alloc)?);
-    let files = Noted::new(alloc, notes.share()?, files, LocalFile::new(alloc, *rt)?);
-    Ok(NotedProviders { remote, sim, files })
 }

@@ -8,7 +8,7 @@ use Rattle.tf_provider_protocol.specs.Meaning.{Meaning}
 use Rattle.tf_provider_remote.specs.Types.{remote_meaning, type_of}
 use Rattle.tf_provider_sim.specs.Table.{sim_meaning}
 use Rattle.tf_recovery.proofs.Replaying.{by_three}
-use Rattle.tf_recovery.specs.Outside.{outside_replayed}
+use Rattle.tf_session.specs.Outside.{outside_replayed}
 use denote.Param.Object.{read_made}
 use Rattle.tf_recovery.proofs.recovering.preview_by.OwnLists as lists
 use Rattle.tf_recovery.proofs.recovering.preview_by.Goals as goal

@@ -7,7 +7,8 @@ use Rattle.tf_provider_remote.specs.Types.{remote_meaning, type_of}
 use Rattle.tf_provider_sim.specs.Table.{sim_meaning}
 use Rattle.tf_recovery.proofs.Outcomes.{is_outcome}
 use Rattle.tf_recovery.proofs.Replaying.{by_three}
-use Rattle.tf_recovery.specs.Outside.{IsOutcome, outside_replayed}
+use Rattle.tf_recovery.specs.Outcome.{IsOutcome}
+use Rattle.tf_session.specs.Outside.{outside_replayed}
 use denote.Param.Object.{read_made}
 use Rattle.tf_recovery.proofs.walking.apply_over_log.OwnLists as lists
 use Rattle.tf_recovery.proofs.walking.apply_over_log.Goals as goal

@@ -7,7 +7,7 @@ use Rattle.tf_provider_remote.specs.Types.{remote_meaning, type_of}
 use Rattle.tf_provider_sim.specs.Table.{sim_meaning}
 use Rattle.tf_recovery.proofs.Replaying.{for_three}
 use Rattle.tf_recovery.proofs.Serving.{may_start}
-use Rattle.tf_recovery.specs.Outside.{outside_meanings, outside_replayed}
+use Rattle.tf_session.specs.Outside.{outside_meanings, outside_replayed}
 use Rattle.tf_walk_action.specs.Words.{AreServed, plan_of}
 use denote.Param.Object.{read_made}
 use Rattle.tf_recovery.proofs.walking.requests_over_log.OwnLists as lists

@@ -1,8 +1,8 @@
 use Rattle.std.proofs.Common.{map, refl}
 use Rattle.tf_provider_log.specs.LogEntry.{log_entry_of}
 use Rattle.tf_provider_remote.specs.Types.{remote_meaning, type_of}
-use Rattle.tf_recovery.proofs.Replaying.{outside_together}
-use Rattle.tf_recovery.proofs.recovering.replayed_providers.Goals as goal
+use Rattle.tf_session.proofs.Together.{outside_together}
+use Rattle.tf_session.proofs.replaying.replayed_providers.Goals as goal
 
 pub returns : goal.returns
 returns c =

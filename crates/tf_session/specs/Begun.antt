@@ -5,7 +5,7 @@ use Rattle.tf_provider_log.specs.LogEntry.{log_entry_of}
 use Rattle.tf_provider_log.specs.Replayed.{is_about}
 use Rattle.tf_provider_protocol.specs.Meaning.{Asked}
 use Rattle.tf_provider_remote.specs.Flights.{has_call}
-use Rattle.tf_recovery.specs.declared.session.Session.{Session}
+use Rattle.tf_session.specs.declared.session.Session.{Session}
 
 -- a request waits, is in flight, or has ended
 abbrev pub has_begun : Asked → Session → Bool

@@ -17,7 +17,7 @@ type Watched<P> = Progress<Stopping<Logged<P, LogSink<File>>>, Stderr, HostRunti
 
 /// The provider `sim` of an apply.
 #[derive(Drop)]
-pub(crate) struct WatchedSim {
+pub struct WatchedSim {
     provider: Watched<Sim>,
 }
 
@@ -35,7 +35,7 @@ impl Provider for WatchedSim {
 
 /// The provider `local_file` of an apply.
 #[derive(Drop)]
-pub(crate) struct WatchedFiles {
+pub struct WatchedFiles {
     provider: Watched<LocalFile<HostRuntime>>,
 }
 
@@ -52,13 +52,19 @@ impl Provider for WatchedFiles {
 }
 
 /// The providers of an apply.
-pub(crate) struct WatchedProviders {
-    pub(crate) sim: WatchedSim,
-    pub(crate) files: WatchedFiles,
+pub struct WatchedProviders {
+    /// The provider `sim`.
+    pub sim: WatchedSim,
+    /// The provider `local_file`.
+    pub files: WatchedFiles,
 }
 
-/// Returns the providers of an apply, whose calls this control counts and logs.
-pub(crate) fn watched_providers(
+/// Returns the providers of an apply, whose calls this control counts and logs. `local_file` refuses the files of the program itself.
+///
+/// # Errors
+///
+/// Fails only if memory runs out.
+pub fn watched_providers(
     rt: &HostRuntime,
     place: &Place,
     given: &ProgramInput,

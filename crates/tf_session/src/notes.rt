@@ -14,13 +14,17 @@ use tf_provider_protocol::{Reply, Request, Schema};
 
 /// The lines of a log in memory, of an apply on one thread. Copies share the lines.
 #[derive(Drop)]
-pub(crate) struct Notes {
+pub struct Notes {
     lines: Arc<Mutex<String>>,
 }
 
 impl Notes {
     /// Returns a log with its first line.
-    pub(crate) fn new(alloc: Global) -> Result<Notes, AllocError> {
+    ///
+    /// # Errors
+    ///
+    /// Fails only if memory runs out.
+    pub fn new(alloc: Global) -> Result<Notes, AllocError> {
         let notes = Notes {
             lines: Arc::new(alloc, Mutex::new(String::new(alloc)))?,
         };
@@ -55,7 +59,7 @@ impl Notes {
     /// # Errors
     ///
     /// Fails only if memory runs out.
-    pub(crate) fn requests(&self, alloc: Global) -> Result<Vec<Request>, AllocError> {
+    pub fn requests(&self, alloc: Global) -> Result<Vec<Request>, AllocError> {
         let mut requests = Vec::new(alloc);
         let Some(lines) = self.lines.try_lock() else {
             return Err(AllocError);
@@ -86,7 +90,7 @@ impl Sink for Notes {
 
 /// A provider that answers from the entries of a log, and notes each request that they don't answer.
 #[derive(Drop)]
-pub(crate) struct Noted<P: Provider> {
+pub struct Noted<P: Provider> {
     alloc: Global,
     notes: Notes,
     replayed: Replayed<P>,

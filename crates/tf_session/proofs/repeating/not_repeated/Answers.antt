@@ -3,7 +3,7 @@ use Rattle.std.proofs.Common.{◌≡◌, not, map, rules, string_bytes}
 use Rattle.std.proofs.lemmas.Fn.{filter_same}
 use Rattle.std.specs.Arc.{arc_value}
 use Rattle.tf_provider_remote.specs.Types.{is_idempotent, type_of}
-use Rattle.tf_recovery.proofs.repeating.not_repeated.Goals as goal
+use Rattle.tf_session.proofs.repeating.not_repeated.Goals as goal
 
 pub returns : goal.returns
 returns c =

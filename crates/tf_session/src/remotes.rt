@@ -1,16 +1,15 @@
 //! The schemas of the providers outside the program.
 
-use crate::explaining::unread;
 use std::alloc::{AllocError, Global};
-use std::fs;
 use std::io::Write;
 use std::process::ExitCode;
-use tf_cli_files::{Ending, print_no_memory};
+use std::{fs, io};
+use tf_cli_files::{Ending, print_no_memory, print_unread};
 use tf_provider_remote::{RemoteType, RemoteTypes, SchemasFault, read_schemas};
 
 /// Reads the schemas of the providers in these folders, in their order. If a file can't be read, or isn't of schemas,
 /// prints that and returns the program's end.
-pub(crate) fn read_types<E: Write>(
+pub fn read_types<E: Write>(
     rt: &HostRuntime,
     folders: &[String],
     err: &mut E,
@@ -75,4 +74,12 @@ pub(crate) fn file_in(alloc: Global, folder: &str, file: &str) -> Result<String,
     name.push('/')?;
     name.push_str(file)?;
     Ok(name)
+}
+
+/// Prints that a file can't be read, and returns the program's end, with the error of the system.
+pub(crate) fn unread<E: Write>(name: &str, error: io::Error, err: &mut E) -> Ending {
+    Ending {
+        status: print_unread(name, err),
+        cause: Some(error),
+    }
 }

@@ -2,7 +2,7 @@
 
 ghost use Rattle.std.specs.Prelude.{◌≡◌, false};
 ghost use Rattle.tf_provider_protocol.specs.Meaning.{asked};
-ghost use Rattle.tf_recovery.specs.Begun.{has_begun};
+ghost use Rattle.tf_session.specs.Begun.{has_begun};
 
 use crate::pipes::{Loss, Pipe};
 use std::alloc::{AllocError, Global};
@@ -15,36 +15,41 @@ use tf_provider_log::{Announced, LogEntry, OpenLog, is_begun};
 use tf_provider_remote::{Flight, Flights, RemoteTypes, Response, Unsent, request_line};
 
 /// The log of an apply.
-pub(crate) type ApplyLog = OpenLog<LogSink<File>>;
+pub type ApplyLog = OpenLog<LogSink<File>>;
 
 /// The calls of an apply: what the log has, what is in flight, and the pipes.
 #[derive(Drop)]
-pub(crate) struct Session {
+pub struct Session {
     /// The types of the providers outside the program.
-    pub(crate) types: RemoteTypes,
+    types: RemoteTypes,
     /// The calls that ended, with their replies.
-    pub(crate) entries: Vec<LogEntry>,
+    entries: Vec<LogEntry>,
     /// What is sent together, after the next sync of the log. The log doesn't have it yet.
     waiting: Flights,
     /// What was sent and has no reply yet.
-    pub(crate) flights: Flights,
+    flights: Flights,
     /// The pipes of each provider.
-    pub(crate) pipes: Vec<Pipe>,
+    pipes: Vec<Pipe>,
     /// Which providers are lost.
-    pub(crate) lost: Vec<bool>,
+    lost: Vec<bool>,
     /// Whether nothing more is begun.
-    pub(crate) is_closed: bool,
+    is_closed: bool,
     /// The number of the next request.
-    pub(crate) next_id: u64,
+    next_id: u64,
     /// How many requests may be in flight.
-    pub(crate) most: usize,
+    most: usize,
     /// Where the calls of providers outside the program are reported. Those of the others report by themselves.
     events: ApplyEvents,
 }
 
 impl Session {
-    /// Builds the session of an apply before any call.
-    pub(crate) fn new(
+    /// Builds the session of an apply before any call, with the pipes of each provider outside the program. At most `most` requests are
+    /// in flight at once. `events` reports the calls of providers outside the program.
+    ///
+    /// # Errors
+    ///
+    /// Fails only if memory runs out.
+    pub fn new(
         alloc: Global,
         types: RemoteTypes,
         pipes: Vec<Pipe>,
@@ -69,8 +74,29 @@ impl Session {
         })
     }
 
-    /// Returns whether no call is to be begun, and no reply can come any more.
-    pub(crate) fn is_finished(&self, unanswered: &[Request]) -> bool {
+    /// Returns the types of the providers outside the program.
+    pub fn types(&self) -> &RemoteTypes
+        ensures { result.now ≡ self.now.types }
+    {
+        &self.types
+    }
+
+    /// Returns the calls that ended, with their replies.
+    pub fn entries(&self) -> &[LogEntry]
+        ensures { result.now ≡ self.now.entries.items }
+    {
+        self.entries.as_slice()
+    }
+
+    /// Returns the requests that were sent and have no reply yet.
+    pub fn flights(&self) -> &Flights
+        ensures { result.now ≡ self.now.flights }
+    {
+        &self.flights
+    }
+
+    /// Returns whether no call is to be begun, and no reply can come any more. These requests are those that the log doesn't answer.
+    pub fn is_finished(&self, unanswered: &[Request]) -> bool {
         self.flights.next_provider(&self.lost).is_none()
             && (self.is_closed || !self.has_new(unanswered))
     }
@@ -92,8 +118,13 @@ impl Session {
         self.waiting.has(request) || self.flights.has(request) || is_begun(&self.entries, request)
     }
 
-    /// Makes the calls that aren't begun, and takes replies.
-    pub(crate) fn serve<E: Write>(
+    /// Makes those of these calls that aren't begun, and takes replies. Calls of providers outside the program are sent; `providers`
+    /// are called for the others. If a provider is lost, or a stop file exists that the options name, nothing more is begun.
+    ///
+    /// # Errors
+    ///
+    /// Fails only if memory runs out.
+    pub fn serve<E: Write>(
         &mut self,
         rt: &HostRuntime,
         log: &ApplyLog,

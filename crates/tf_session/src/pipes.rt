@@ -1,8 +1,10 @@
-//! The two pipes of a provider outside the program.
+//! The two pipes of each provider outside the program.
 
 use crate::remotes::file_in;
+use std::alloc::AllocError;
 use std::fs::{File, OpenOptions};
 use std::io::{ErrorKind, Read, Write};
+use std::process::ExitCode;
 use std::{fs, io, mem};
 use tf_provider_log::Announced;
 use tf_provider_remote::{Responses, read_replies};
@@ -15,7 +17,7 @@ const AT_ONCE: usize = 65_536;
 
 /// The two pipes of a provider: one for requests, and one for replies.
 #[derive(Drop)]
-pub(crate) struct Pipe {
+pub struct Pipe {
     requests: File,
     replies: File,
     /// What was read of a line that isn't whole.
@@ -58,7 +60,7 @@ impl Loss {
 
 impl Pipe {
     /// Returns whether a folder has both pipes.
-    pub(crate) fn is_in(rt: &HostRuntime, folder: &str) -> io::Result<bool> {
+    fn is_in(rt: &HostRuntime, folder: &str) -> io::Result<bool> {
         let alloc = rt.alloc();
         let requests = file_in(alloc, folder, "requests")?;
         let replies = file_in(alloc, folder, "replies")?;
@@ -66,7 +68,7 @@ impl Pipe {
     }
 
     /// Opens the pipes in a folder, that of the requests first. Waits for the provider to open them too.
-    pub(crate) fn open(rt: &HostRuntime, folder: &str) -> io::Result<Pipe> {
+    fn open(rt: &HostRuntime, folder: &str) -> io::Result<Pipe> {
         let alloc = rt.alloc();
         let requests = file_in(alloc, folder, "requests")?;
         let replies = file_in(alloc, folder, "replies")?;
@@ -126,6 +128,48 @@ impl Pipe {
             Err(_) => Err(Loss::OutOfMemory),
         }
     }
+}
+
+/// Opens the pipes of each provider, whose folders these are, in their order. Waits for each provider to open them too. If one can't be
+/// opened, prints that and returns the program's status, 1.
+///
+/// # Errors
+///
+/// Fails only if memory runs out.
+pub fn open_pipes<E: Write>(
+    rt: &HostRuntime,
+    folders: &[String],
+    err: &mut E,
+) -> Result<Result<Vec<Pipe>, ExitCode>, AllocError> {
+    let mut pipes = Vec::new(rt.alloc());
+    for folder in folders {
+        match Pipe::open(rt, folder.as_str()) {
+            Ok(pipe) => pipes.push(pipe)?,
+            Err(_) => return Ok(Err(print_no_pipes(folder.as_str(), err))),
+        }
+    }
+    Ok(Ok(pipes))
+}
+
+/// Checks that each folder has both pipes, without opening them. If one hasn't, prints that and returns the program's status, 1.
+pub fn check_pipes<E: Write>(
+    rt: &HostRuntime,
+    folders: &[String],
+    err: &mut E,
+) -> Result<(), ExitCode> {
+    for folder in folders {
+        match Pipe::is_in(rt, folder.as_str()) {
+            Ok(true) => {}
+            _ => return Err(print_no_pipes(folder.as_str(), err)),
+        }
+    }
+    Ok(())
+}
+
+/// Prints that a folder doesn't have the two pipes of a provider.
+fn print_no_pipes<E: Write>(folder: &str, err: &mut E) -> ExitCode {
+    let _ = writeln!(err, "error: {folder}: no pipes named requests and replies");
+    ExitCode::FAILURE
 }
 
 /// Returns whether a name is of a pipe.

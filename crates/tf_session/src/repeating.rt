@@ -3,7 +3,7 @@
 ghost use Rattle.std.specs.Arc.{arc_value};
 ghost use Rattle.std.specs.Prelude.{◌≡◌, map};
 ghost use Rattle.tf_provider_remote.specs.Types.{type_of};
-ghost use Rattle.tf_recovery.specs.Repeated.{IsWithoutRepeated, not_repeated};
+ghost use Rattle.tf_session.specs.Repeated.{IsWithoutRepeated, not_repeated};
 
 use std::io::Write;
 use tf_cli_files::UnfinishedApply;
@@ -14,7 +14,7 @@ use tf_provider_remote::RemoteTypes;
 
 /// Takes the calls of idempotent types out of the calls in flight of an unfinished apply, and prints each. It is then recovered as if
 /// they weren't made, so the next plan has them again.
-pub(crate) fn repeat_idempotent<E: Write>(
+pub fn repeat_idempotent<E: Write>(
     types: &RemoteTypes,
     unfinished: Option<(UnfinishedApply, Vec<LogEntry>)>,
     err: &mut E,
@@ -37,7 +37,7 @@ pub(crate) fn repeat_idempotent<E: Write>(
 }
 
 /// Takes the calls of idempotent types out of the calls in flight of an unfinished apply.
-pub(crate) fn without_idempotent(
+pub fn without_idempotent(
     types: &RemoteTypes,
     unfinished: Option<(UnfinishedApply, Vec<LogEntry>)>,
 ) -> Option<(UnfinishedApply, Vec<LogEntry>)>

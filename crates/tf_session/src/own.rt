@@ -3,7 +3,7 @@
 ghost use Rattle.std.specs.Prelude.{◌≡◌, ◌∷◌, [], IfOk, map};
 ghost use Rattle.tf_provider_log.specs.LogEntry.{log_entry_of};
 ghost use Rattle.tf_provider_log.specs.Replayed.{own_entries};
-ghost use Rattle.tf_recovery.specs.Outside.{outside_meanings};
+ghost use Rattle.tf_session.specs.Outside.{outside_meanings};
 
 use std::alloc::AllocError;
 use tf_provider::Provider;

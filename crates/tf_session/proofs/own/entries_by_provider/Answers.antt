@@ -2,8 +2,8 @@ use Rattle.std.proofs.Common.{◌≡◌, ◌≤◌, ℕ, length, map, ap, rules,
 use Rattle.std.proofs.lemmas.List.{length-map}
 use Rattle.std.specs.Vec.Iter.{into_iter_len}
 use Rattle.tf_provider_log.specs.LogEntry.{log_entry_of}
-use Rattle.tf_recovery.proofs.Replaying.{three_lists, three_long}
-use Rattle.tf_recovery.proofs.own.entries_by_provider.Goals as goal
+use Rattle.tf_session.proofs.Together.{three_lists, three_long}
+use Rattle.tf_session.proofs.own.entries_by_provider.Goals as goal
 
 pub returns : goal.returns
 returns c =

@@ -1,0 +1,22 @@
+//! The calls of the programs `plan` and `apply`: the session with providers outside the program, the providers that answer from a log,
+//! and the providers whose calls are logged, counted and printed.
+#![tactic(auto)]
+
+mod notes;
+mod own;
+mod pipes;
+mod remotes;
+mod repeating;
+mod replaying;
+mod results;
+mod session;
+mod watched;
+
+pub use notes::{Noted, Notes};
+pub use pipes::{Pipe, check_pipes, open_pipes};
+pub use remotes::read_types;
+pub use repeating::{repeat_idempotent, without_idempotent};
+pub use replaying::{NotedProviders, ReplayedProviders, noted_providers, replayed_providers};
+pub use results::add_results;
+pub use session::{ApplyLog, Session};
+pub use watched::{WatchedFiles, WatchedProviders, WatchedSim, watched_providers};
