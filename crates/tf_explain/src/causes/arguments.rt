@@ -63,10 +63,10 @@ const MERGED: &str = "the merged variables";
 const PROPERTIES: [&str; 4] = ["count", "for_each", "depends_on", "lifecycle"];
 
 /// Says that a type has no attribute, with the nearest one or the nearest other property of a block.
-fn say_no_argument(
+fn say_no_argument<'a>(
     page: &mut Page,
-    type_name: &str,
-    name: &str,
+    type_name: &'a str,
+    name: &'a str,
     schema: &Schema,
 ) -> Result<(), AllocError> {
     let mut nearest = Nearest::to(page.alloc, name);
@@ -94,11 +94,11 @@ fn ignored_at(alloc: Global, text: &[u8], block: Member, name: &str) -> Result<S
 }
 
 /// Explains a bad value of an attribute that the type has.
-fn explain_attribute(
+fn explain_attribute<'a>(
     page: &mut Page,
-    type_name: &str,
+    type_name: &'a str,
     schema: &Schema,
-    attribute: &Attribute,
+    attribute: &'a Attribute,
     config: SourceFile<'_>,
     block: Member,
     argument: Option<Member>,
@@ -144,10 +144,10 @@ fn say_kind<'a>(
 }
 
 /// Says that an argument is required, with a near name in the block that isn't an attribute.
-fn say_required(
+fn say_required<'a>(
     page: &mut Page,
-    type_name: &str,
-    name: &str,
+    type_name: &'a str,
+    name: &'a str,
     config: SourceFile<'_>,
     block: Member,
     schema: &Schema,
@@ -178,10 +178,10 @@ fn say_required(
 /// # Errors
 ///
 /// Fails only if memory runs out.
-pub(crate) fn say_mistyped(
+pub(crate) fn say_mistyped<'a>(
     page: &mut Page,
-    name: &str,
-    written: &str,
+    name: &'a str,
+    written: &'a str,
     config: SourceFile<'_>,
     object: Span,
 ) -> Result<(), AllocError> {

@@ -18,6 +18,9 @@ use tf_expr_template::read_template;
 /// The most expressions that are looked through for one fault.
 const MOST_EXPRESSIONS: usize = 20;
 
+/// The most texts of one expression that are explained.
+const MOST_TEXTS: usize = 10;
+
 /// The most locals that are shown for a fault that may be in one of them.
 const MOST_LOCALS: usize = 3;
 
@@ -117,16 +120,21 @@ fn explain_expression(
     scope: Scope<'_>,
     search: Search,
 ) -> Result<bool, AllocError> {
-    let mut is_explained = false;
+    let mut explained = 0usize;
     let mut at = expression.start;
     for _ in expression.start..expression.end {
         let Some(text) = next_text(scope.sources.config.bytes, at, expression) else {
             break;
         };
         at = text.end;
-        is_explained = explain_text(page, text, kind, scope, search)? || is_explained;
+        if explain_text(page, text, kind, scope, search)? {
+            explained = explained.saturating_add(1);
+        }
+        if explained >= MOST_TEXTS {
+            break;
+        }
     }
-    Ok(is_explained)
+    Ok(explained > 0)
 }
 
 /// Returns the sentence on a kind of fault.

@@ -7,7 +7,8 @@ use crate::causes::scope::Scope;
 use crate::causes::values::{NUMBER, Shown, TEXT, Written, number_at, value_of_variable};
 use crate::decoding::{decoded, text_in};
 use crate::page::Page;
-use crate::positions::member_named;
+use crate::positions::{Member, member_named};
+use crate::sources::SourceFile;
 use std::alloc::AllocError;
 use tf_expr_syntax::{Reference, Template, Term};
 use tf_provider_protocol::{Mode, schema_for};
@@ -286,15 +287,26 @@ fn argument_of<'s>(
     if lifecycle_setting(config.bytes, found, "ignore_changes").is_some() {
         return None;
     }
-    let (span, written) = match (
-        member_named(config.bytes, found.value, name),
-        attribute.mode,
-    ) {
-        (_, Mode::Computed) => return None,
-        (Some(argument), _) => (argument.value, Written::AsArgument),
-        (None, Mode::Optional) => (found.name, Written::LeftOut),
-        (None, Mode::Required) => return None,
+    match attribute.mode {
+        Mode::Computed => None,
+        Mode::Required | Mode::Optional => argument_in(config, found, name, attribute.mode),
+    }
+}
+
+/// Returns the value of an argument in a block, or null if it is optional and the block leaves it out.
+fn argument_in<'s>(
+    config: SourceFile<'s>,
+    block: Member,
+    name: &str,
+    mode: Mode,
+) -> Option<Shown<'s>> {
+    let (span, written) = match member_named(config.bytes, block.value, name) {
+        Some(argument) => (argument.value, Written::AsArgument),
+        None => (block.name, Written::LeftOut),
     };
+    if written == Written::LeftOut && mode == Mode::Required {
+        return None;
+    }
     Some(Shown {
         file: config,
         span,

@@ -112,10 +112,10 @@ fn show_joined(
 }
 
 /// Says of which kind a part of a text is, and shows its value.
-fn say_part(
+fn say_part<'a>(
     page: &mut Page,
-    part: &str,
-    kind: &str,
+    part: &'a str,
+    kind: &'a str,
     term: &Term,
     scope: Scope<'_>,
 ) -> Result<(), AllocError> {

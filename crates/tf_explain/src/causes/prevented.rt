@@ -292,12 +292,26 @@ fn explain_change(
 }
 
 /// Says how an attribute changes.
-fn say_change(page: &mut Page, name: &str, old: Prior<'_>, new: &str) -> Result<(), AllocError> {
-    let before = simple(page, Shown::literal(old.state, old.span))?;
-    let before = match &before {
-        Some(text) => text.as_str(),
-        None => "another value",
-    };
+fn say_change<'a>(
+    page: &mut Page,
+    name: &'a str,
+    old: Prior<'_>,
+    new: &'a str,
+) -> Result<(), AllocError> {
+    let text = simple(page, Shown::literal(old.state, old.span))?;
+    match &text {
+        Some(before) => say_values(page, name, before.as_str(), new),
+        None => say_values(page, name, "another value", new),
+    }
+}
+
+/// Says which value an attribute has in the state, and which one in the configuration.
+fn say_values<'a>(
+    page: &mut Page,
+    name: &'a str,
+    before: &'a str,
+    new: &'a str,
+) -> Result<(), AllocError> {
     page.say(&[
         "`",
         name,

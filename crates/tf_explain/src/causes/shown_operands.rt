@@ -15,7 +15,7 @@ use tf_expr_syntax::Term;
 pub(crate) fn explain_operand(
     page: &mut Page,
     used: Used<'_, '_>,
-    kind: &str,
+    kind: &'static str,
 ) -> Result<(), AllocError> {
     match value_of(page, used.term, used.text.scope)? {
         Some(shown) => {
@@ -90,7 +90,7 @@ fn say_value(page: &mut Page, term: &Term, kind: &str, shown: Shown<'_>) -> Resu
 }
 
 /// Says of which kind the result of an operand is.
-fn say_result(page: &mut Page, term: &Term, kind: &str) -> Result<(), AllocError> {
+fn say_result<'a>(page: &mut Page, term: &'a Term, kind: &'a str) -> Result<(), AllocError> {
     match term {
         Term::Call(name, _) => { page.say(&["The result of `", name.as_str(), "` is ", kind, "."]) }
         Term::Reference(reference) => {
