@@ -1,7 +1,9 @@
 //! The work of `apply`.
 
 use crate::approving::AtTerminal;
-use crate::explaining::{end_early, explains, print_log_cause, sources, warn};
+use crate::explaining::{
+    end_early, explain_missing, explains, lacks_configuration, print_log_cause, sources, warn,
+};
 use crate::failures::failure_lines;
 use crate::outside::apply_outside;
 use crate::planning::check_forms;
@@ -95,8 +97,10 @@ fn prepare<O: Write, E: Write>(
         Ok(types) => types,
         Err(ending) => return Ok(Err(ending)),
     };
+    let is_missing = lacks_configuration(rt, &options);
     let (loaded, file) = match load_locked(rt, options, err) {
         Ok(held) => held,
+        Err(ending) if is_missing => return Ok(Err(explain_missing(ending, err))),
         Err(ending) => return Ok(Err(ending)),
     };
     let Loaded {

@@ -1,7 +1,8 @@
 //! Explained errors.
 
+use std::fs;
 use std::fs::File;
-use std::io::{IsTerminal, Write};
+use std::io::{ErrorKind, IsTerminal, Write};
 use std::process::ExitCode;
 use tf_cli_files::{CallControl, Ending, Place, ProgramInput, print_cause};
 use tf_cli_options::Options;
@@ -20,6 +21,27 @@ pub(crate) fn end_early<E: Write>(ending: Ending, explains: bool, err: &mut E) -
         print_cause(cause, explains, err);
     }
     ending.status
+}
+
+/// Returns whether errors are explained and the configuration doesn't exist.
+pub(crate) fn lacks_configuration(rt: &HostRuntime, options: &Options) -> bool {
+    options.explain
+        && match fs::metadata(rt, options.config.as_str()) {
+            Ok(_) => false,
+            Err(error) => error.kind() == ErrorKind::NotFound,
+        }
+}
+
+/// Prints the error of the system and how to mend that the configuration doesn't exist. Returns the program's end.
+pub(crate) fn explain_missing<E: Write>(ending: Ending, err: &mut E) -> Ending {
+    if let Some(cause) = &ending.cause {
+        print_cause(cause, true, err);
+    }
+    let _ = writeln!(
+        err,
+        "  Create the configuration, or name another file with `--config`. Files in HCL (`.tf`) aren't read."
+    );
+    Ending::from(ending.status)
 }
 
 /// Prints the error of the system because of which the log of an apply can't be written, if there is one and errors are explained.

@@ -1,7 +1,7 @@
 //! The work of `plan`.
 
 use crate::approving::colours;
-use crate::explaining::{end_early, explains, sources, warn};
+use crate::explaining::{end_early, explain_missing, explains, lacks_configuration, sources, warn};
 use crate::recovering::preview;
 use std::io;
 use std::io::Write;
@@ -35,8 +35,10 @@ pub fn plan<O: Write, E: Write>(
         Ok(types) => types,
         Err(ending) => return Ok(end_early(ending, is_explained, err)),
     };
+    let is_missing = lacks_configuration(rt, &options);
     let loaded = match load(rt, options, err) {
         Ok(loaded) => loaded,
+        Err(ending) if is_missing => return Ok(explain_missing(ending, err).status),
         Err(ending) => return Ok(end_early(ending, is_explained, err)),
     };
     let Loaded {
