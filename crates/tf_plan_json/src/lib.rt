@@ -5,6 +5,7 @@ mod changing;
 mod document;
 mod known;
 mod listing;
+mod output_sending;
 mod prior;
 mod prior_sending;
 mod reasons;
