@@ -4,6 +4,7 @@
 mod changing;
 mod document;
 mod known;
+pub mod laws;
 mod listing;
 mod output_sending;
 mod prior;

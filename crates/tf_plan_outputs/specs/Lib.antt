@@ -1,3 +1,4 @@
 pub mod Changes
+pub mod Laws
 pub mod Objects
 pub mod Views

@@ -3,6 +3,7 @@
 #![tactic(auto)]
 
 mod change;
+pub mod laws;
 mod listing;
 mod names;
 mod objects;
