@@ -2,6 +2,8 @@
 use Rattle.std.proofs.Common.{◌≡◌, ◌+◌, ℕ, suc, Bool, true, false, true≢false, not, IsTrue, List, [], ◌∷◌, length, map, String, Global, Option, Some, None, option_map, codes, refl, sym, ap, subst, ◌∙◌, arith}
 use Rattle.std.specs.Int.{from_bool}
 use Rattle.std.specs.Prelude.{◌↔◌, if◌then◌else◌, is_some}
+use Rattle.std.specs.Borrow.{Bor}
+use Rattle.std.specs.Option.{option_copied}
 use Rattle.serde.specs.Event.{Log, Logs, map_begins, map_ends, field_key}
 use Rattle.serde.specs.declared.name.Case.TheVariants.{AsIs}
 use Rattle.serde_json.specs.Data.{Data, number, unsigned, string, array, object, boolean, Members, no_members, member}
@@ -12,7 +14,7 @@ use Rattle.tf_plan_changes.specs.Changes.{ChangeView}
 use Rattle.tf_plan_json.specs.Document.{actions_data, object_data, after_unknown_data, paths_data, inner_members, inner_data, inner_count, entry_members, entry_data, outer_count, output_actions_data, output_unknown_data, output_change_data, output_members, variable_data, document_members, document_data, document_count}
 use Rattle.tf_plan_json.specs.Members.{some_member, members_by}
 use Rattle.tf_plan_json.specs.Prior.{stored_members, stored_data, stored_count, output_data, outputs_data, objects_data, module_data, values_data, values_count, prior_data}
-use Rattle.tf_plan_outputs.specs.Changes.{OutputChangeView, action_of}
+use Rattle.tf_plan_outputs.specs.Changes.{OutputActionView, OutputChangeView, action_of}
 use Rattle.tf_plan_outputs.specs.Views.{change_view}
 use Rattle.tf_plan_outputs.specs.declared.change.OutputChange.{OutputChange}
 use Rattle.tf_state.specs.Sending.{SendsSome, one_if_some}
@@ -20,7 +22,8 @@ use Rattle.tf_state.specs.Text.{dependencies_data, flag_data, key_data}
 use Rattle.tf_state_data.specs.Record.{RecordView}
 use Rattle.tf_state_data.specs.State.{outputs_of}
 use Rattle.tf_state_data.specs.declared.object.Object.{Object}
-use Rattle.tf_value_data.specs.Tree.{Entries}
+use Rattle.tf_value_data.specs.Tree.{Entries, tree_of}
+use Rattle.tf_value_data.specs.declared.value.Value.{Value}
 use Rattle.tf_value_json.specs.Json.{value_data}
 
 abbrev pub Sends : List ℕ → Data → Log → Log → Type 0
@@ -191,6 +194,20 @@ pub output_change_sent : (c : OutputChangeView) (l0 l1 l2 l3 l4 l5 l6 l7 l8 : Lo
 output_change_sent c l0 l1 l2 l3 l4 l5 l6 l7 l8 begun actions after sensitive marks before sensitive_before ended =
     (l1, begun, (actions.0, l2, actions.1, actions.2, (after.0, l3, after.1, after.2, (sensitive.0, l4, sensitive.1, sensitive.2, (marks.0, l5, marks.1, marks.2,
     (before.0, l6, before.1, before.2, (sensitive_before.0, l7, sensitive_before.1, sensitive_before.2, ended)))))))
+
+-- a value that was borrowed from an option is that value
+borrowed : (r : Option (Bor Value)) (o : Option Value) → option_copied r ≡ o → option_map (λ v. tree_of v.now) r ≡ option_map tree_of o
+borrowed None o same = ap (option_map tree_of) same
+borrowed (Some v) o same = ap (option_map tree_of) same
+
+pub after_sent : (r : Option (Bor Value)) (o : Option Value) (a b : Log) → option_copied r ≡ o → SendsValue (object_data (option_map (λ v. tree_of v.now) r)) a b → SendsValue (object_data (option_map tree_of o)) a b
+after_sent r o a b same sent = subst (λ t. SendsValue (object_data t) a b) (borrowed r o same) sent
+
+pub unknown_sent : (r : Option (Bor Value)) (o : Option Value) (a b : Log) → option_copied r ≡ o → SendsValue (output_unknown_data (option_map (λ v. tree_of v.now) r)) a b → SendsValue (output_unknown_data (option_map tree_of o)) a b
+unknown_sent r o a b same sent = subst (λ t. SendsValue (output_unknown_data t) a b) (borrowed r o same) sent
+
+pub action_sent : (x y : OutputActionView) (a b : Log) → x ≡ y → SendsValue (output_actions_data x) a b → SendsValue (output_actions_data y) a b
+action_sent x y a b same sent = subst (λ z. SendsValue (output_actions_data z) a b) same sent
 
 -- ---- the document
 
