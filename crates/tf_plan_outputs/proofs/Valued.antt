@@ -11,12 +11,17 @@ use Rattle.tf_expr_syntax.specs.declared.fault.EvalFault.{EvalFault}
 use Rattle.tf_expr_syntax.specs.ExprTree as expr
 use Rattle.tf_graph.proofs.Solving.{solution-exists}
 use Rattle.tf_graph.specs.Solutions.{Ranked}
+use Rattle.tf_plan_data.specs.Action.{ActionView}
 use Rattle.tf_plan_data.specs.Plan.{PlanView, plan_names}
 use Rattle.tf_plan_outputs.specs.Changes.{AreNamesPlanned, IsPlannedValue, planned_with}
-use Rattle.tf_plan_outputs.specs.Objects.{objects_planned}
+use Rattle.tf_plan_outputs.specs.Objects.{objects_planned, planned_object}
 use Rattle.tf_value_data.specs.Tree.{Tree, unknown, tree_of}
 use Rattle.tf_value_data.specs.declared.value.Value.{Value}
 use Rattle.tf_walk_names.specs.Resolving.{AreResolvedSoFar, IsOutput, without_sets}
+
+-- the objects of a plan, by its names and its actions
+pub objects_same : (plan : PlanView) (names : List NameView) (actions : List ActionView) → names ≡ plan_names plan → actions ≡ plan.actions → planned_object names plan.prior actions ≡ objects_planned plan
+objects_same plan names actions named same = ap (λ (ns : List NameView). planned_object ns plan.prior actions) named ∙ ap (planned_object (plan_names plan) plan.prior) same
 
 module _ (plan : PlanView) (names : List NameView) (shapes : ℕ → InstanceKeysView) (objects : ℕ → InstanceKeyView → Tree) (named : names ≡ plan_names plan) (shaped : shapes ≡ plan.shapes) (given : objects ≡ objects_planned plan) where
   -- the values of names so far, by the parts that the evaluation sees

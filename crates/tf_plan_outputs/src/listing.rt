@@ -46,7 +46,8 @@ fn changes_of<'a>(
 {
     let mut resolved = Vec::new(alloc);
     let mut made = Vec::new(alloc);
-    for name in output_names(alloc, plan)? {
+    let listed = output_names(alloc, plan)?;
+    for name in listed {
         made.push(change_of(alloc, plan, names, name, &mut resolved)?)?;
     }
     Ok(made)

@@ -12,9 +12,9 @@ pub loop-name-init : goal.loop-name-init
 loop-name-init c =
     let plan = plan_of c.args.plan.now in
     let none : c.new-made.result.items ≡ [] = search rules in
-    let all : c.into_iter-name-iterator.result ≡ c.in_ok-output_names.field-0.keys = search rules in
+    let all : c.into_iter-name-iterator.result ≡ c.in_ok-listed.listed.keys = search rules in
     record {
-      names = rw none (ap texts_view all ∙ c.in_ok-output_names.ensures);
+      names = rw none (ap texts_view all ∙ c.in_ok-listed.ensures);
       each = rw none tt;
       so_far = none_answered plan.variables (plan_names plan) plan.shapes (objects_planned plan) c.new-resolved.result.items c.new-resolved.ensures.items;
     }
