@@ -1,4 +1,4 @@
-use Rattle.std.proofs.Common.{map, ap, refl}
+use Rattle.std.proofs.Common.{map, ap}
 use Rattle.tf_config_names.specs.Table.{names_in}
 use Rattle.tf_expand_keys.specs.Views.{shapes_of, resolved_names_of}
 use Rattle.tf_expr_syntax.specs.ExprTree.{tree_of as expr_of}
@@ -6,7 +6,9 @@ use Rattle.tf_plan_data.specs.Action.{action_of}
 use Rattle.tf_plan_data.specs.Plan.{plan_of}
 use Rattle.tf_plan_outputs.proofs.Valued.{by_parts, by_plan, objects_same, planned_fault, planned_value}
 use Rattle.tf_plan_outputs.specs.Objects.{planned_object}
-use Rattle.tf_value_data.specs.Tree.{tree_of, unknown}
+use Rattle.tf_value_data.specs.Tree.{tree_of}
+use Rattle.tf_value_data.specs.declared.value.Value.{Unknown}
+use Rattle.tf_expr_operators.proofs.Trees.{tree_of-Unknown}
 use Rattle.tf_plan_outputs.proofs.values.planned_value.Goals as goal
 
 pub output_value-requires : goal.output_value-requires
@@ -73,4 +75,4 @@ returns-in-Err-clause-value c =
     let objects = planned_object names plan.prior actions in
     let shaped = ap shapes_of c.as_slice-2.ensures.value in
     let given = objects_same plan names actions c.requires.names (ap (map action_of) c.as_slice.ensures.value) in
-    planned_fault plan names shapes objects c.requires.names shaped given (c.requires.fits.dependence.ranked c.requires.fits.acyclic) (expr_of c.args.expr.now) c.in-Err.field-0 unknown refl (rw c.in-Err.is at c.in_ok-value.ensures.output)
+    planned_fault plan names shapes objects c.requires.names shaped given (c.requires.fits.dependence.ranked c.requires.fits.acyclic) (expr_of c.args.expr.now) c.in-Err.field-0 (tree_of Unknown) tree_of-Unknown (rw c.in-Err.is at c.in_ok-value.ensures.output)
