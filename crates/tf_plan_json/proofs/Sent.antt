@@ -191,9 +191,35 @@ changes_len (c ∷ cs) = ap suc (changes_len cs)
 pub output_change_sent : (c : OutputChangeView) (l0 l1 l2 l3 l4 l5 l6 l7 l8 : Log) → Logs l0 l1 (map_begins (Some 6)) → Sends (codes "actions") (output_actions_data (action_of c)) l1 l2 → Sends (codes "after") (object_data c.after) l2 l3
     → Sends (codes "after_sensitive") (boolean false) l3 l4 → Sends (codes "after_unknown") (output_unknown_data c.after) l4 l5 → Sends (codes "before") (object_data c.before) l5 l6
     → Sends (codes "before_sensitive") (boolean false) l6 l7 → Logs l7 l8 map_ends → SendsValue (output_change_data c) l0 l8
-output_change_sent c l0 l1 l2 l3 l4 l5 l6 l7 l8 begun actions after sensitive marks before sensitive_before ended =
-    (l1, begun, (actions.0, l2, actions.1, actions.2, (after.0, l3, after.1, after.2, (sensitive.0, l4, sensitive.1, sensitive.2, (marks.0, l5, marks.1, marks.2,
-    (before.0, l6, before.1, before.2, (sensitive_before.0, l7, sensitive_before.1, sensitive_before.2, ended)))))))
+output_change_sent c l0 l1 l2 l3 l4 l5 l6 l7 l8 begun actions after sensitive marks before sensitive_before ended = (
+  l1,
+  begun,
+  (
+    actions.0,
+    l2,
+    actions.1,
+    actions.2,
+    (
+      after.0,
+      l3,
+      after.1,
+      after.2,
+      (
+        sensitive.0,
+        l4,
+        sensitive.1,
+        sensitive.2,
+        (
+          marks.0,
+          l5,
+          marks.1,
+          marks.2,
+          (before.0, l6, before.1, before.2, (sensitive_before.0, l7, sensitive_before.1, sensitive_before.2, ended)),
+        ),
+      ),
+    ),
+  ),
+)
 
 -- a value that was borrowed from an option is that value
 borrowed : (r : Option (Bor Value)) (o : Option Value) → option_copied r ≡ o → option_map (λ v. tree_of v.now) r ≡ option_map tree_of o

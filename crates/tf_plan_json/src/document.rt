@@ -5,13 +5,14 @@ ghost use Rattle.serde_json.specs.Data.{array, object};
 ghost use Rattle.serde_json.specs.Events.{SendsValue};
 ghost use Rattle.serde_json.specs.View.{items_of};
 ghost use Rattle.tf_plan_data.specs.Plan.{plan_of};
-ghost use Rattle.tf_plan_json.specs.Document.{IsJsonText, document_count, document_data, output_changes_data, variable_data};
+ghost use Rattle.tf_plan_json.specs.Document.{IsJsonText, document_count, document_data, output_changes_data, plan_data, variable_data};
 ghost use Rattle.tf_plan_json.specs.Members.{members_by};
 ghost use Rattle.tf_plan_json.specs.Prior.{some_prior};
 ghost use Rattle.tf_plan_json.specs.Views.{entry_view, stored_view};
 ghost use Rattle.tf_plan_outputs.specs.Views.{change_view};
 ghost use Rattle.tf_state_data.specs.State.{outputs_of};
 ghost use Rattle.tf_value_data.specs.Tree.{entries_view, tree_of};
+ghost use Rattle.tf_value_json.specs.Text.{text_of};
 
 use crate::changing::send_entry;
 use crate::listing::{Entry, entries};
@@ -21,7 +22,7 @@ use crate::prior_sending::{is_something, send_prior};
 use serde::{Described, Serialize, Serializer};
 use std::alloc::{AllocError, Global};
 use std::collections::BTreeMap;
-use tf_plan_data::Planned;
+use tf_plan_data::{Plan, Planned};
 use tf_plan_outputs::{OutputChange, output_changes};
 use tf_state_data::Object;
 use tf_value_data::Value;
@@ -38,12 +39,22 @@ pub fn json_text(alloc: Global, planned: &Planned) -> Result<String, AllocError>
     ensures { IfOk result (λ text. IsJsonText (plan_of planned.now) (string_bytes text)) }
 {
     let changes = output_changes(alloc, planned)?;
-    let plan = &planned.plan;
+    document_text(alloc, &planned.plan, changes.as_slice())
+}
+
+/// Returns the document of a plan and the changes of its outputs, as a text.
+fn document_text(
+    alloc: Global,
+    plan: &Plan,
+    changes: &[OutputChange<'_>],
+) -> Result<String, AllocError>
+    ensures { IfOk result (λ text. string_bytes text ≡ text_of (plan_data (plan_of plan.now) (map change_view changes.now))) }
+{
     let objects = stored_objects(alloc, &plan.prior)?;
     let entries = entries(alloc, plan)?;
     let document = PlanDocument {
         variables: &plan.variables,
-        changes: changes.as_slice(),
+        changes,
         outputs: plan.prior.outputs(),
         objects: objects.as_slice(),
         entries: entries.as_slice(),
