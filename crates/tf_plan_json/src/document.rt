@@ -39,22 +39,22 @@ pub fn json_text(alloc: Global, planned: &Planned) -> Result<String, AllocError>
     ensures { IfOk result (λ text. IsJsonText (plan_of planned.now) (string_bytes text)) }
 {
     let changes = output_changes(alloc, planned)?;
-    document_text(alloc, &planned.plan, changes.as_slice())
+    document_text(alloc, &planned.plan, changes)
 }
 
 /// Returns the document of a plan and the changes of its outputs, as a text.
 fn document_text(
     alloc: Global,
     plan: &Plan,
-    changes: &[OutputChange<'_>],
+    changes: Vec<OutputChange<'_>>,
 ) -> Result<String, AllocError>
-    ensures { IfOk result (λ text. string_bytes text ≡ text_of (plan_data (plan_of plan.now) (map change_view changes.now))) }
+    ensures { IfOk result (λ text. string_bytes text ≡ text_of (plan_data (plan_of plan.now) (map change_view changes.items))) }
 {
     let objects = stored_objects(alloc, &plan.prior)?;
     let entries = entries(alloc, plan)?;
     let document = PlanDocument {
         variables: &plan.variables,
-        changes,
+        changes: changes.as_slice(),
         outputs: plan.prior.outputs(),
         objects: objects.as_slice(),
         entries: entries.as_slice(),
