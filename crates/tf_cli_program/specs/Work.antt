@@ -1,5 +1,5 @@
 -- What the programs do with the files that they were given.
-use Rattle.std.specs.Prelude.{◌≡◌, ◌⊎◌, ◌&&◌, if◌then◌else◌, ◌==◌, ◌++◌, not, true, false, IfOk, MatchOption, ℕ, List, length, Option, Some, None, Result, Ok, Err, OnOk, option_map, string_bytes}
+use Rattle.std.specs.Prelude.{◌≡◌, ◌⊎◌, ◌&&◌, if◌then◌else◌, ◌==◌, ◌++◌, not, true, false, IfOk, MatchBool, MatchOption, ℕ, List, length, Option, Some, None, Result, Ok, Err, OnOk, option_map, string_bytes}
 use Rattle.std.specs.Io.KnownBytes.{Appends}
 use Rattle.std.specs.Process.{exit_status}
 use Rattle.std.specs.declared.alloc.Global.{Global}
@@ -16,7 +16,7 @@ use Rattle.tf_cli_text.specs.Shown.{to_write}
 use Rattle.tf_provider_log.specs.Header.{HeaderView}
 use Rattle.tf_plan_diff.specs.Diff.{diff_text}
 use Rattle.tf_plan_diff.specs.declared.headings.Colours.{Colours}
-use Rattle.tf_plan_json.specs.Document.{json_text}
+use Rattle.tf_plan_json.specs.Document.{IsJsonText}
 use Rattle.tf_plan_text.specs.Dot.{IsDrawn}
 use Rattle.tf_plan_data.specs.Plan.{PlanView}
 use Rattle.tf_cli_files.specs.Kept.{EndsKept, text_in_place}
@@ -56,7 +56,7 @@ pub record IsShownPlan (ms : List Meaning) (given : ProgramInput) (text : List �
 -- the text of a plan in the form that the options ask for
 abbrev pub PrintsAs : Options → Colours → PlanView → List ℕ → Type 0
 PrintsAs options colours plan text =
-    MatchOption options.graph (text ≡ (if options.json then json_text plan else shown_text options colours plan)) (λ form. IsDrawn plan text)
+    MatchOption options.graph (MatchBool options.json (IsJsonText plan text) (text ≡ shown_text options colours plan)) (λ form. IsDrawn plan text)
 
 -- 2 if the plan has actions and the options ask for a status that says so, else 0
 abbrev pub plan_status : Options → PlanView → ℕ

@@ -84,7 +84,7 @@ fn form_of(
             Ok(text)
         }
         None if options.json => {
-            let text = json_text(alloc, &planned.plan)?;
+            let text = json_text(alloc, planned)?;
             Ok(text)
         }
         None => shown_text(alloc, options, colours, planned),

@@ -12,11 +12,13 @@ use Rattle.tf_config_address.specs.ResourceAddr.{ResourceAddrView}
 use Rattle.tf_plan_changes.specs.Changes.{ChangeView, KindView, create_it, update_it, replace_it, replace_late, destroy_it, changes}
 use Rattle.tf_plan_data.specs.Address.{address_text}
 use Rattle.tf_plan_data.specs.Plan.{PlanView}
-use Rattle.tf_plan_json.specs.Document.{path_data, actions_data, object_data, after_unknown_data, paths_of, paths_data, inner_data, entry_data, change_data, variable_data, plan_data}
+use Rattle.tf_plan_json.specs.Document.{path_data, actions_data, object_data, after_unknown_data, paths_of, paths_data, inner_data, entry_data, change_data, output_actions_data, output_unknown_data, output_change_data, output_members, output_changes_data, variable_data, plan_data}
 use Rattle.tf_plan_json.specs.Members.{some_member, members_by}
 use Rattle.tf_plan_json.specs.Parts.{false_items, is_leaf, known_data, known_items, known_members, unknown_data, unknown_items, unknown_members}
 use Rattle.tf_plan_json.specs.Prior.{is_something, module_data, objects_data, objects_of, output_data, outputs_data, prior_data, prior_of, record_data, stored_data}
 use Rattle.tf_plan_json.specs.Reasons.{provider_source}
+use Rattle.tf_plan_outputs.specs.Changes as outputs
+use Rattle.tf_plan_outputs.specs.Changes.{OutputActionView, OutputChangeView, action_of, no_op}
 use Rattle.tf_state.specs.Text.{dependencies_data, flag_data, key_data}
 use Rattle.tf_state_data.specs.Record.{RecordView}
 use Rattle.tf_state_data.specs.Resource.{ResourceView}
@@ -224,9 +226,37 @@ some_if-whole false d e = tt
 prior-whole : (s : StateView) → MayBeWhole (prior_of s)
 prior-whole s = let ds = flat_map objects_of s.resources in some_if-whole (is_something s.outputs ds) (prior_data s.outputs ds) (prior_data-whole s.outputs ds (resources-whole s.resources))
 
+-- ---- the changes of outputs
+
+output_actions-whole : (a : OutputActionView) → has_float (output_actions_data a) ≡ false
+output_actions-whole no_op = refl
+output_actions-whole outputs.create_it = refl
+output_actions-whole outputs.update_it = refl
+output_actions-whole outputs.delete_it = refl
+
+false_if-whole : (test : Bool) (d : json.Data) → has_float d ≡ false → has_float (if test then json.boolean false else d) ≡ false
+false_if-whole true d e = refl
+false_if-whole false d e = e
+
+output_unknown-whole : (o : Option Tree) → has_float (output_unknown_data o) ≡ false
+output_unknown-whole None = refl
+output_unknown-whole (Some t) = false_if-whole (known t) (unknown_data t) (unknown-whole t)
+
+output_change-whole : (c : OutputChangeView) → has_float (output_change_data c) ≡ false
+output_change-whole c =
+    neither _ _ (output_actions-whole (action_of c)) (neither _ _ (object-whole c.after) (neither _ _ refl (neither _ _ (output_unknown-whole c.after) (neither _ _ (object-whole c.before) refl))))
+
+output_members-whole : (cs : List OutputChangeView) → members_have_float (output_members cs) ≡ false
+output_members-whole [] = refl
+output_members-whole (c ∷ cs) = neither _ _ (output_change-whole c) (output_members-whole cs)
+
+output_changes-whole : (cs : List OutputChangeView) → MayBeWhole (output_changes_data cs)
+output_changes-whole [] = tt
+output_changes-whole (c ∷ cs) = output_members-whole (c ∷ cs)
+
 -- ---- the document
 
-pub plan-whole : (plan : PlanView) → has_float (plan_data plan) ≡ false
-plan-whole plan =
-    neither _ _ refl (neither _ _ refl (neither _ _ refl (some-whole (codes "prior_state") (prior_of plan.prior) _ (prior-whole plan.prior)
-    (neither _ _ (changes-whole plan (changes plan.late plan.actions)) (neither _ _ refl (neither _ _ (members_by-whole variable_data variable-whole plan.variables) refl))))))
+pub plan-whole : (plan : PlanView) (cs : List OutputChangeView) → has_float (plan_data plan cs) ≡ false
+plan-whole plan cs =
+    neither _ _ refl (neither _ _ refl (neither _ _ refl (some-whole (codes "output_changes") (output_changes_data cs) _ (output_changes-whole cs) (some-whole (codes "prior_state") (prior_of plan.prior) _ (prior-whole plan.prior)
+    (neither _ _ (changes-whole plan (changes plan.late plan.actions)) (neither _ _ refl (neither _ _ (members_by-whole variable_data variable-whole plan.variables) refl)))))))

@@ -1,3 +1,4 @@
 pub mod Counted
 pub mod Floats
+pub mod Printed
 pub mod Sent

@@ -1,7 +1,9 @@
 -- What is sent member by member is sent whole.
-use Rattle.std.proofs.Common.{◌≡◌, ◌+◌, ℕ, Bool, true, false, true≢false, not, IsTrue, List, [], ◌∷◌, length, String, Global, Option, Some, None, option_map, codes, refl, sym, ap, subst, ◌∙◌, arith}
+use Rattle.std.proofs.Common.{◌≡◌, ◌+◌, ℕ, suc, Bool, true, false, true≢false, not, IsTrue, List, [], ◌∷◌, length, map, String, Global, Option, Some, None, option_map, codes, refl, sym, ap, subst, ◌∙◌, arith}
 use Rattle.std.specs.Int.{from_bool}
 use Rattle.std.specs.Prelude.{◌↔◌, if◌then◌else◌, is_some}
+use Rattle.std.specs.Borrow.{Bor}
+use Rattle.std.specs.Option.{option_copied}
 use Rattle.serde.specs.Event.{Log, Logs, map_begins, map_ends, field_key}
 use Rattle.serde.specs.declared.name.Case.TheVariants.{AsIs}
 use Rattle.serde_json.specs.Data.{Data, number, unsigned, string, array, object, boolean, Members, no_members, member}
@@ -9,15 +11,19 @@ use Rattle.serde_json.specs.Events.{SendsValue, SendsMembers, members_len}
 use Rattle.serde_json.specs.View.{items_of}
 use Rattle.tf_config_address.specs.ResourceAddr.{ResourceAddrView}
 use Rattle.tf_plan_changes.specs.Changes.{ChangeView}
-use Rattle.tf_plan_json.specs.Document.{actions_data, object_data, after_unknown_data, paths_data, inner_members, inner_data, inner_count, entry_members, entry_data, outer_count, variable_data, document_members, document_data, document_count}
+use Rattle.tf_plan_json.specs.Document.{actions_data, object_data, after_unknown_data, paths_data, inner_members, inner_data, inner_count, entry_members, entry_data, outer_count, output_actions_data, output_unknown_data, output_change_data, output_members, variable_data, document_members, document_data, document_count}
 use Rattle.tf_plan_json.specs.Members.{some_member, members_by}
 use Rattle.tf_plan_json.specs.Prior.{stored_members, stored_data, stored_count, output_data, outputs_data, objects_data, module_data, values_data, values_count, prior_data}
+use Rattle.tf_plan_outputs.specs.Changes.{OutputActionView, OutputChangeView, action_of}
+use Rattle.tf_plan_outputs.specs.Views.{change_view}
+use Rattle.tf_plan_outputs.specs.declared.change.OutputChange.{OutputChange}
 use Rattle.tf_state.specs.Sending.{SendsSome, one_if_some}
 use Rattle.tf_state.specs.Text.{dependencies_data, flag_data, key_data}
 use Rattle.tf_state_data.specs.Record.{RecordView}
 use Rattle.tf_state_data.specs.State.{outputs_of}
 use Rattle.tf_state_data.specs.declared.object.Object.{Object}
-use Rattle.tf_value_data.specs.Tree.{Entries}
+use Rattle.tf_value_data.specs.Tree.{Entries, tree_of}
+use Rattle.tf_value_data.specs.declared.value.Value.{Value}
 use Rattle.tf_value_json.specs.Json.{value_data}
 
 abbrev pub Sends : List ℕ → Data → Log → Log → Type 0
@@ -176,14 +182,71 @@ pub prior_sent : (outputs : Entries) (ds : List Data) (l0 l1 l2 l3 l4 l5 : Log) 
 prior_sent outputs ds l0 l1 l2 l3 l4 l5 begun format version values ended =
     (l1, begun, (format.0, l2, format.1, format.2, (version.0, l3, version.1, version.2, (values.0, l4, values.1, values.2, ended))))
 
+-- ---- the changes of outputs
+
+pub changes_len : (cs : List OutputChange) → members_len (output_members (map change_view cs)) ≡ length cs
+changes_len [] = refl
+changes_len (c ∷ cs) = ap suc (changes_len cs)
+
+pub output_change_sent : (c : OutputChangeView) (l0 l1 l2 l3 l4 l5 l6 l7 l8 : Log) → Logs l0 l1 (map_begins (Some 6)) → Sends (codes "actions") (output_actions_data (action_of c)) l1 l2 → Sends (codes "after") (object_data c.after) l2 l3
+    → Sends (codes "after_sensitive") (boolean false) l3 l4 → Sends (codes "after_unknown") (output_unknown_data c.after) l4 l5 → Sends (codes "before") (object_data c.before) l5 l6
+    → Sends (codes "before_sensitive") (boolean false) l6 l7 → Logs l7 l8 map_ends → SendsValue (output_change_data c) l0 l8
+output_change_sent c l0 l1 l2 l3 l4 l5 l6 l7 l8 begun actions after sensitive marks before sensitive_before ended = (
+  l1,
+  begun,
+  (
+    actions.0,
+    l2,
+    actions.1,
+    actions.2,
+    (
+      after.0,
+      l3,
+      after.1,
+      after.2,
+      (
+        sensitive.0,
+        l4,
+        sensitive.1,
+        sensitive.2,
+        (
+          marks.0,
+          l5,
+          marks.1,
+          marks.2,
+          (before.0, l6, before.1, before.2, (sensitive_before.0, l7, sensitive_before.1, sensitive_before.2, ended)),
+        ),
+      ),
+    ),
+  ),
+)
+
+-- a value that was borrowed from an option is that value
+borrowed : (r : Option (Bor Value)) (o : Option Value) → option_copied r ≡ o → option_map (λ v. tree_of v.now) r ≡ option_map tree_of o
+borrowed None o same = ap (option_map tree_of) same
+borrowed (Some v) o same = ap (option_map tree_of) same
+
+pub after_sent : (r : Option (Bor Value)) (o : Option Value) (a b : Log) → option_copied r ≡ o → SendsValue (object_data (option_map (λ v. tree_of v.now) r)) a b → SendsValue (object_data (option_map tree_of o)) a b
+after_sent r o a b same sent = subst (λ t. SendsValue (object_data t) a b) (borrowed r o same) sent
+
+pub unknown_sent : (r : Option (Bor Value)) (o : Option Value) (a b : Log) → option_copied r ≡ o → SendsValue (output_unknown_data (option_map (λ v. tree_of v.now) r)) a b → SendsValue (output_unknown_data (option_map tree_of o)) a b
+unknown_sent r o a b same sent = subst (λ t. SendsValue (output_unknown_data t) a b) (borrowed r o same) sent
+
+pub action_sent : (x y : OutputActionView) (a b : Log) → x ≡ y → SendsValue (output_actions_data x) a b → SendsValue (output_actions_data y) a b
+action_sent x y a b same sent = subst (λ z. SendsValue (output_actions_data z) a b) same sent
+
 -- ---- the document
 
-pub document_sent : (variables : Entries) (prior : Option Data) (made : List Data) (n : ℕ) (l0 l1 l2 l3 l4 l5 l6 l7 l8 l9 : Log) → n ≡ document_count prior → Logs l0 l1 (map_begins (Some n)) → Sends (codes "complete") (boolean true) l1 l2
-    → Sends (codes "errored") (boolean false) l2 l3 → Sends (codes "format_version") (string (codes "1.2")) l3 l4 → SendsSome (codes "prior_state") prior l4 l5 → Sends (codes "resource_changes") (array (items_of made)) l5 l6
-    → Sends (codes "terraform_version") (string (codes "1.0.0")) l6 l7 → Sends (codes "variables") (object (members_by variable_data variables)) l7 l8 → Logs l8 l9 map_ends → SendsValue (document_data variables prior made) l0 l9
-document_sent variables prior made n l0 l1 l2 l3 l4 l5 l6 l7 l8 l9 is begun complete errored format before changes version given ended =
+pub document_sent : (variables : Entries) (outputs prior : Option Data) (made : List Data) (n : ℕ) (l0 l1 l2 l3 l4 l5 l6 l7 l8 l9 l10 : Log) → n ≡ document_count outputs prior → Logs l0 l1 (map_begins (Some n)) → Sends (codes "complete") (boolean true) l1 l2
+    → Sends (codes "errored") (boolean false) l2 l3 → Sends (codes "format_version") (string (codes "1.2")) l3 l4 → SendsSome (codes "output_changes") outputs l4 l5 → SendsSome (codes "prior_state") prior l5 l6
+    → Sends (codes "resource_changes") (array (items_of made)) l6 l7 → Sends (codes "terraform_version") (string (codes "1.0.0")) l7 l8 → Sends (codes "variables") (object (members_by variable_data variables)) l8 l9 → Logs l9 l10 map_ends
+    → SendsValue (document_data variables outputs prior made) l0 l10
+document_sent variables outputs prior made n l0 l1 l2 l3 l4 l5 l6 l7 l8 l9 l10 is begun complete errored format named before changes version given ended =
     let rest = member (codes "resource_changes") (array (items_of made)) (member (codes "terraform_version") (string (codes "1.0.0")) (member (codes "variables") (object (members_by variable_data variables)) no_members)) in
+    let from_prior = some_member (codes "prior_state") prior rest in
     let count = some_len (codes "prior_state") prior rest in
-    let later : SendsMembers rest l5 l9 = (changes.0, l6, changes.1, changes.2, (version.0, l7, version.1, version.2, (given.0, l8, given.1, given.2, ended))) in
-    object_sent (document_members variables prior made) n l0 l1 l9 (omega (arith, is, count)) begun
-    (complete.0, l2, complete.1, complete.2, (errored.0, l3, errored.1, errored.2, (format.0, l4, format.1, format.2, sends_some (codes "prior_state") prior rest l4 l5 l9 before later)))
+    let count_named = some_len (codes "output_changes") outputs from_prior in
+    let later : SendsMembers rest l6 l10 = (changes.0, l7, changes.1, changes.2, (version.0, l8, version.1, version.2, (given.0, l9, given.1, given.2, ended))) in
+    let from_state : SendsMembers from_prior l5 l10 = sends_some (codes "prior_state") prior rest l5 l6 l10 before later in
+    object_sent (document_members variables outputs prior made) n l0 l1 l10 (omega (arith, is, count, count_named)) begun
+    (complete.0, l2, complete.1, complete.2, (errored.0, l3, errored.1, errored.2, (format.0, l4, format.1, format.2, sends_some (codes "output_changes") outputs from_prior l4 l5 l10 named from_state)))

@@ -1,5 +1,5 @@
 -- The document of a plan, in the shape of Terraform's plan representation. Members are in byte order of their names.
-use Rattle.std.specs.Prelude.{ℕ, true, false, ◌+◌, if◌then◌else◌, List, [], ◌∷◌, Option, Some, None, option_map, codes, map as each}
+use Rattle.std.specs.Prelude.{◌≡◌, ℕ, true, false, ◌+◌, if◌then◌else◌, List, [], ◌∷◌, Option, Some, None, option_map, codes, map as each}
 use Rattle.serde_json.specs.Data.{Data, null, boolean, string, array, object, item, no_items, Members, no_members, member}
 use Rattle.serde_json.specs.View.{items_of}
 use Rattle.tf_plan_changes.specs.Changes.{ChangeView, KindView, create_it, update_it, replace_it, replace_late, destroy_it, changes}
@@ -9,6 +9,8 @@ use Rattle.tf_plan_json.specs.Members.{some_member, members_by}
 use Rattle.tf_plan_json.specs.Parts.{known_data, unknown_data}
 use Rattle.tf_plan_json.specs.Prior.{prior_of}
 use Rattle.tf_plan_json.specs.Reasons.{provider_source, reason_of}
+use Rattle.tf_plan_outputs.specs.Changes as outputs
+use Rattle.tf_plan_outputs.specs.Changes.{OutputActionView, OutputChangeView, AreOutputChanges, action_of, no_op}
 use Rattle.tf_state.specs.Sending.{one_if_some}
 use Rattle.tf_state.specs.Text.{key_data}
 use Rattle.tf_value_data.specs.Known.{known}
@@ -82,27 +84,63 @@ outer_count reason c = 6 + one_if_some (option_map string reason) + one_if_some 
 abbrev pub change_data : PlanView → ChangeView → Data
 change_data plan c = entry_data (reason_of plan.config c) (address_text c.addr c.key) (provider_source c.addr.type_name) c
 
+-- ---- the changes of outputs
+
+-- what is done to an output, in Terraform's words
+abbrev pub output_actions_data : OutputActionView → Data
+output_actions_data no_op = path_data (codes "no-op")
+output_actions_data outputs.create_it = path_data (codes "create")
+output_actions_data outputs.update_it = path_data (codes "update")
+output_actions_data outputs.delete_it = path_data (codes "delete")
+
+-- which parts of a value are unknown; `false` if it is known
+abbrev pub output_marks_data : Tree → Data
+output_marks_data t = if known t then boolean false else unknown_data t
+
+abbrev pub output_unknown_data : Option Tree → Data
+output_unknown_data None = boolean false
+output_unknown_data (Some t) = output_marks_data t
+
+-- a change of an output; neither of its values is sensitive
+abbrev pub output_change_data : OutputChangeView → Data
+output_change_data c =
+    object (member (codes "actions") (output_actions_data (action_of c)) (member (codes "after") (object_data c.after) (member (codes "after_sensitive") (boolean false) (member (codes "after_unknown") (output_unknown_data c.after)
+    (member (codes "before") (object_data c.before) (member (codes "before_sensitive") (boolean false) no_members))))))
+
+-- the changes by the names of the outputs
+abbrev pub output_members : List OutputChangeView → Members
+output_members [] = no_members
+output_members (c ∷ cs) = member c.name (output_change_data c) (output_members cs)
+
+-- the changes, if there are any
+abbrev pub output_changes_data : List OutputChangeView → Option Data
+output_changes_data [] = None
+output_changes_data (c ∷ cs) = Some (object (output_members (c ∷ cs)))
+
 -- ---- the document
 
 abbrev pub variable_data : Tree → Data
 variable_data t = object (member (codes "value") (value_data t) no_members)
 
--- a document of variables, of a prior state if there is one, and of changes
-abbrev pub document_members : Entries → Option Data → List Data → Members
-document_members variables prior made =
-    member (codes "complete") (boolean true) (member (codes "errored") (boolean false) (member (codes "format_version") (string (codes "1.2")) (some_member (codes "prior_state") prior (member (codes "resource_changes") (array (items_of made))
-    (member (codes "terraform_version") (string (codes "1.0.0")) (member (codes "variables") (object (members_by variable_data variables)) no_members))))))
+-- a document of variables, of changes of outputs and of a prior state if there are any, and of changes of objects
+abbrev pub document_members : Entries → Option Data → Option Data → List Data → Members
+document_members variables outputs prior made =
+    member (codes "complete") (boolean true) (member (codes "errored") (boolean false) (member (codes "format_version") (string (codes "1.2")) (some_member (codes "output_changes") outputs (some_member (codes "prior_state") prior
+    (member (codes "resource_changes") (array (items_of made)) (member (codes "terraform_version") (string (codes "1.0.0")) (member (codes "variables") (object (members_by variable_data variables)) no_members)))))))
 
-abbrev pub document_data : Entries → Option Data → List Data → Data
-document_data variables prior made = object (document_members variables prior made)
+abbrev pub document_data : Entries → Option Data → Option Data → List Data → Data
+document_data variables outputs prior made = object (document_members variables outputs prior made)
 
-abbrev pub document_count : Option Data → ℕ
-document_count prior = 6 + one_if_some prior
+abbrev pub document_count : Option Data → Option Data → ℕ
+document_count outputs prior = 6 + one_if_some outputs + one_if_some prior
 
--- the document of a plan: the state that it starts from, and each of its changes once, in address order
-abbrev pub plan_data : PlanView → Data
-plan_data plan = document_data plan.variables (prior_of plan.prior) (each (change_data plan) (changes plan.late plan.actions))
+-- the document of a plan and the changes of its outputs: each of these, the state that the plan starts from, and each
+-- change of an object once, in address order
+abbrev pub plan_data : PlanView → List OutputChangeView → Data
+plan_data plan outputs = document_data plan.variables (output_changes_data outputs) (prior_of plan.prior) (each (change_data plan) (changes plan.late plan.actions))
 
--- the one text of the document
-abbrev pub json_text : PlanView → List ℕ
-json_text plan = text_of (plan_data plan)
+-- the one text of the document of a plan
+pub record IsJsonText (plan : PlanView) (text : List ℕ) : Type 0 where
+  pub outputs : List OutputChangeView
+  pub planned : AreOutputChanges plan outputs
+  pub prints : text ≡ text_of (plan_data plan outputs)

@@ -1,4 +1,5 @@
 pub mod Document
+pub mod Laws
 pub mod Members
 pub mod Parts
 pub mod Prior

@@ -148,7 +148,7 @@ fn send_actions<S: Serializer>(kind: ChangeKind<'_>, out: &mut S) -> Result<(), 
 }
 
 /// Sends an array of one text.
-fn send_one<S: Serializer>(word: &str, out: &mut S) -> Result<(), S::Error>
+pub(crate) fn send_one<S: Serializer>(word: &str, out: &mut S) -> Result<(), S::Error>
     ensures { OnOk result (SendsValue (path_data word.now) (S.written out.old) (S.written out.new)) }
 {
     out.begin_seq(Some(1))?;
@@ -170,7 +170,10 @@ fn send_two<S: Serializer>(
 }
 
 /// Sends the known part of an object, or null if there is no object.
-fn send_object<S: Serializer>(object: Option<&Value>, out: &mut S) -> Result<(), S::Error>
+pub(crate) fn send_object<S: Serializer>(
+    object: Option<&Value>,
+    out: &mut S,
+) -> Result<(), S::Error>
     ensures { OnOk result (SendsValue (object_data (option_map (λ v. tree_of v.now) object.entry)) (S.written out.old) (S.written out.new)) }
 {
     match object {

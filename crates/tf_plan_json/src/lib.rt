@@ -4,7 +4,9 @@
 mod changing;
 mod document;
 mod known;
+pub mod laws;
 mod listing;
+mod output_sending;
 mod prior;
 mod prior_sending;
 mod reasons;

@@ -1,0 +1,4 @@
+pub mod Listed
+pub mod Named
+pub mod Valued
+pub mod One
