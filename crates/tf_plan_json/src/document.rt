@@ -48,7 +48,7 @@ fn document_text(
     plan: &Plan,
     changes: Vec<OutputChange<'_>>,
 ) -> Result<String, AllocError>
-    ensures { IfOk result (λ text. string_bytes text ≡ text_of (plan_data (plan_of plan.now) (map change_view changes.items))) }
+    ensures { IfOk result (λ text. string_bytes text ≡ text_of (plan_data (plan_of plan.now) (map change_view changes.entry.items))) }
 {
     let objects = stored_objects(alloc, &plan.prior)?;
     let entries = entries(alloc, plan)?;
