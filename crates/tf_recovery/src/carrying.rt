@@ -41,12 +41,7 @@ pub(crate) fn carried_out<T: Wait, E: Write>(
         let unanswered = match calls_to_make(rt, types, planned, session)? {
             Some(unanswered) => unanswered,
             None => {
-                let Walk { answer, unanswered } = apply_over_log(
-                    rt,
-                    given,
-                    session.types(),
-                    session.entries(),
-                )?;
+                let Walk { answer, unanswered } = applied(rt, given, session)?;
                 if session.is_finished(&unanswered) {
                     return Ok(answer);
                 }
@@ -57,6 +52,13 @@ pub(crate) fn carried_out<T: Wait, E: Write>(
         session.serve(rt, log, providers, given, unanswered, err)?;
     }
     unreachable!()
+}
+
+/// Applies what was given, by providers that answer what the log of a session says so far.
+fn applied(rt: &HostRuntime, given: &ProgramInput, session: &Session) -> Result<Walk, AllocError>
+    ensures { IfOk result (λ walk. IsOutcome (outside_replayed (⟦<RemoteTypes as Provider>⟧.meaning session.now.types) (map log_entry_of session.now.entries.items)) given.now walk.answer) }
+{
+    apply_over_log(rt, given, session.types(), session.entries())
 }
 
 /// Returns the calls that the log doesn't answer, or `None` if no call is left: each action's call has ended, or nothing is to be
