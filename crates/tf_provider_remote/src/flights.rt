@@ -1,8 +1,9 @@
 //! The requests that were sent and that have no reply yet.
 
-ghost use Rattle.std.specs.Prelude.{◌≡◌, ◌<◌, ◌++◌, ◌∷◌, ◌==◌, [], IfSome, MatchOption, OnOk, length, slice_index_or};
+ghost use Rattle.std.specs.Prelude.{◌≡◌, ◌+◌, ◌<◌, ◌≤◌, ◌++◌, ◌∷◌, ◌==◌, [], MatchOption, OnOk, false, length, slice_index_or, vec_capacity};
+ghost use Rattle.std.specs.List.{list_any, remove};
 ghost use Rattle.tf_provider_protocol.specs.Meaning.{asked};
-ghost use Rattle.tf_provider_remote.specs.Flights.{IsTaken, has_call, is_call};
+ghost use Rattle.tf_provider_remote.specs.Flights.{has_call, is_call, is_numbered, next_provider};
 
 use std::alloc::{AllocError, Global};
 use tf_provider_log::is_same_text;
@@ -106,12 +107,17 @@ impl Flights {
     ///
     /// Fails only if memory runs out. The requests stay as they are.
     pub fn reserve(&mut self, additional: usize) -> Result<(), AllocError>
-        ensures { self.new.flights.items ≡ self.old.flights.items }
+        ensures same { self.new.flights.items ≡ self.old.flights.items }
+        ensures room { OnOk result (length self.new.flights.items + additional ≤ vec_capacity self.new.flights) }
     {
         self.flights.reserve(additional)
     }
 
-    /// Adds a request that was sent.
+    /// Adds a request at the end.
+    ///
+    /// # Errors
+    ///
+    /// Fails only if memory runs out.
     pub fn add(&mut self, flight: Flight) -> Result<(), AllocError>
         ensures { OnOk result (self.new.flights.items ≡ self.old.flights.items ++ flight ∷ []) }
     {
@@ -119,20 +125,43 @@ impl Flights {
         Ok(())
     }
 
-    /// Takes the request of this number, if it is in flight to this provider. The others stay, in their order.
-    pub fn take(&mut self, provider: usize, id: u64) -> Option<Flight>
-        ensures { MatchOption result (self.new ≡ self.old) (λ flight. (flight.id ≡ id) × (flight.provider ≡ provider) × IsTaken flight self.old.flights.items self.new.flights.items) }
+    /// Adds requests at the end, for which there has to be memory (`reserve`).
+    pub fn append(&mut self, mut more: Vec<Flight>)
+        requires { length self.old.flights.items + length more.items ≤ vec_capacity self.old.flights }
+        ensures { self.new.flights.items ≡ self.old.flights.items ++ more.items }
     {
-        let place = place_of(self.flights.as_slice(), provider, id)?;
-        if place < self.flights.len() {
-            Some(self.flights.remove(place))
-        } else {
-            None
+        if self.flights.append(&mut more).is_err() {
+            unreachable!();
         }
     }
 
+    /// Returns the place of the request of this number, if it is in flight to this provider. Several such requests have the place of
+    /// the first one.
+    pub fn place_of(&self, provider: usize, id: u64) -> Option<usize>
+        ensures { MatchOption result (list_any (is_numbered provider id) self.now.flights.items ≡ false)
+            (λ place. (place < length self.now.flights.items) × ((d : Flight) → ((slice_index_or self.now.flights.items place d).id ≡ id) × ((slice_index_or self.now.flights.items place d).provider ≡ provider))) }
+    {
+        for (place, flight) in self.flights.iter().enumerate() {
+            if flight.id == id && flight.provider == provider {
+                return Some(place);
+            }
+        }
+        None
+    }
+
+    /// Takes out the request at a place. The others stay, in their order.
+    pub fn take(&mut self, place: usize) -> Flight
+        requires { place < length self.old.flights.items }
+        ensures taken { result ≡ slice_index_or self.old.flights.items place result }
+        ensures others { self.new.flights.items ≡ remove self.old.flights.items place }
+    {
+        self.flights.remove(place)
+    }
+
     /// Returns the provider that the first request in flight was sent to, but for those that are lost.
-    pub fn next_provider(&self, lost: &[bool]) -> Option<usize> {
+    pub fn next_provider(&self, lost: &[bool]) -> Option<usize>
+        ensures { result ≡ next_provider lost.now self.now.flights.items }
+    {
         for flight in &self.flights {
             if lost.get(flight.provider) == Some(&false) {
                 return Some(flight.provider);
@@ -149,16 +178,4 @@ fn is_call(one: &Request, other: &Request) -> bool
     one.op == other.op
         && one.address.as_str() == other.address.as_str()
         && is_same_text(&one.deposed, &other.deposed)
-}
-
-/// Returns the place of the request of this number, if it is in flight to this provider.
-fn place_of(flights: &[Flight], provider: usize, id: u64) -> Option<usize>
-    ensures { IfSome result (λ place. (place < length flights.now) × ((d : Flight) → ((slice_index_or flights.now place d).id ≡ id) × ((slice_index_or flights.now place d).provider ≡ provider))) }
-{
-    for (place, flight) in flights.iter().enumerate() {
-        if flight.id == id && flight.provider == provider {
-            return Some(place);
-        }
-    }
-    None
 }

@@ -1,8 +1,8 @@
 //! Providers that are other programs: their schemas, the requests that an apply has for them, and the lines of the two
 //! pipes.
 //!
-//! No provider is called here. `tf_recovery` carries out an apply with such providers: it sends requests, writes the replies to the
-//! log, and applies again with providers that answer from the log.
+//! No provider is called here. `tf_session` sends requests and writes the replies to the log; `tf_recovery` applies again with providers
+//! that answer from the log.
 #![tactic(auto)]
 
 mod flights;

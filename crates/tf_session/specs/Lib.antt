@@ -1,3 +1,3 @@
-pub mod Begun
+pub mod Calls
 pub mod Outside
 pub mod Repeated

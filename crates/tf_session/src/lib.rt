@@ -2,6 +2,7 @@
 //! and the providers whose calls are logged, counted and printed.
 #![tactic(auto)]
 
+mod calls;
 mod notes;
 mod own;
 mod pipes;

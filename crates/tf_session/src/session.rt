@@ -1,18 +1,22 @@
 //! The calls of an apply with providers outside the program.
 
-ghost use Rattle.std.specs.Prelude.{◌≡◌, false};
+ghost use Rattle.std.specs.Prelude.{◌≡◌, ◌&&◌, ◌||◌, [], IfOk, OnOk, false, is_none, map};
 ghost use Rattle.tf_provider_protocol.specs.Meaning.{asked};
-ghost use Rattle.tf_session.specs.Begun.{has_begun};
+ghost use Rattle.tf_provider_remote.specs.Flights.{next_provider};
+ghost use Rattle.tf_session.specs.Calls.{Continues, have_begun};
 
+use crate::calls::Calls;
 use crate::pipes::{Loss, Pipe};
 use std::alloc::{AllocError, Global};
+use std::fs;
 use std::fs::File;
 use std::io::Write;
-use std::{fs, mem};
 use tf_cli_files::{ApplyEvents, LogSink, ProgramInput};
 use tf_provider::{Provider, Reply, Request, first_provider};
 use tf_provider_log::{Announced, LogEntry, OpenLog, is_begun};
-use tf_provider_remote::{Flight, Flights, RemoteTypes, Response, Unsent, request_line};
+use tf_provider_remote::{
+    Flight, Flights, RemoteTypes, Response, Responses, Unsent, request_line,
+};
 
 /// The log of an apply.
 pub type ApplyLog = OpenLog<LogSink<File>>;
@@ -22,12 +26,8 @@ pub type ApplyLog = OpenLog<LogSink<File>>;
 pub struct Session {
     /// The types of the providers outside the program.
     types: RemoteTypes,
-    /// The calls that ended, with their replies.
-    entries: Vec<LogEntry>,
-    /// What is sent together, after the next sync of the log. The log doesn't have it yet.
-    waiting: Flights,
-    /// What was sent and has no reply yet.
-    flights: Flights,
+    /// The calls so far.
+    calls: Calls,
     /// The pipes of each provider.
     pipes: Vec<Pipe>,
     /// Which providers are lost.
@@ -55,16 +55,17 @@ impl Session {
         pipes: Vec<Pipe>,
         most: usize,
         events: ApplyEvents,
-    ) -> Result<Session, AllocError> {
+    ) -> Result<Session, AllocError>
+        ensures types { IfOk result (λ session. session.types ≡ types) }
+        ensures none { IfOk result (λ session. (session.calls.flights.flights.items ≡ []) × (session.calls.entries.items ≡ [])) }
+    {
         let mut lost = Vec::new(alloc);
         for _ in 0..pipes.len() {
             lost.push(false)?;
         }
         Ok(Session {
             types,
-            entries: Vec::new(alloc),
-            waiting: Flights::new(alloc),
-            flights: Flights::new(alloc),
+            calls: Calls::new(alloc),
             pipes,
             lost,
             is_closed: false,
@@ -83,43 +84,30 @@ impl Session {
 
     /// Returns the calls that ended, with their replies.
     pub fn entries(&self) -> &[LogEntry]
-        ensures { result.now ≡ self.now.entries.items }
+        ensures { result.now ≡ self.now.calls.entries.items }
     {
-        self.entries.as_slice()
+        self.calls.entries.as_slice()
     }
 
     /// Returns the requests that were sent and have no reply yet.
     pub fn flights(&self) -> &Flights
-        ensures { result.now ≡ self.now.flights }
+        ensures { result.now ≡ self.now.calls.flights }
     {
-        &self.flights
+        &self.calls.flights
     }
 
-    /// Returns whether no call is to be begun, and no reply can come any more. These requests are those that the log doesn't answer.
-    pub fn is_finished(&self, unanswered: &[Request]) -> bool {
-        self.flights.next_provider(&self.lost).is_none()
-            && (self.is_closed || !self.has_new(unanswered))
-    }
-
-    /// Returns whether a request isn't begun.
-    fn has_new(&self, unanswered: &[Request]) -> bool {
-        for request in unanswered {
-            if !self.has_begun(request) {
-                return true;
-            }
-        }
-        false
-    }
-
-    /// Returns whether a request waits, is in flight or has ended.
-    fn has_begun(&self, request: &Request) -> bool
-        ensures { result ≡ has_begun (asked request.now) self.now }
+    /// Returns whether no call is to be begun, and no reply can come any more. These requests are those that the log doesn't answer. A
+    /// reply can come for a request in flight whose provider isn't lost.
+    pub fn is_finished(&self, unanswered: &[Request]) -> bool
+        ensures { result ≡ (is_none (next_provider self.now.lost.items self.now.calls.flights.flights.items) && (self.now.is_closed || have_begun (map asked unanswered.now) self.now.calls)) }
     {
-        self.waiting.has(request) || self.flights.has(request) || is_begun(&self.entries, request)
+        self.calls.flights.next_provider(&self.lost).is_none()
+            && (self.is_closed || self.calls.have_begun(unanswered))
     }
 
     /// Makes those of these calls that aren't begun, and takes replies. Calls of providers outside the program are sent; `providers`
-    /// are called for the others. If a provider is lost, or a stop file exists that the options name, nothing more is begun.
+    /// are called for the others. If a provider is lost, or a stop file exists that the options name, nothing more is begun. Forgets no
+    /// call that was made, so none is made twice.
     ///
     /// # Errors
     ///
@@ -132,54 +120,85 @@ impl Session {
         given: &ProgramInput,
         unanswered: Vec<Request>,
         err: &mut E,
-    ) -> Result<(), AllocError> {
+    ) -> Result<(), AllocError>
+        ensures { OnOk result (Continues self.old self.new) }
+    {
+        self.make_all(rt, log, providers, given, unanswered, err)?;
         let folders = given.options.providers.as_slice();
-        for request in unanswered {
-            if is_stopped(rt, &given.options.stop_file) {
-                self.is_closed = true;
-            }
-            if self.is_closed {
-                break;
-            }
-            match self.types.provider_of(request.type_name.as_str()) {
-                Some(provider) => self.send(rt, log, folders, provider, request, err)?,
-                None => {
-                    self.flush(rt.alloc(), log, folders, err)?;
-                    self.call(log, providers, request)?;
-                }
-            }
-        }
         self.flush(rt.alloc(), log, folders, err)?;
-        let enough = 1 + self.entries.len() / 200;
+        let enough = 1 + self.calls.entries.len() / 200;
         for _ in 0..enough {
             self.receive(rt, log, folders, err)?;
         }
         Ok(())
     }
 
-    /// Calls a provider of the program.
+    /// Makes calls that aren't begun, until nothing more is to be begun.
+    fn make_all<E: Write>(
+        &mut self,
+        rt: &HostRuntime,
+        log: &ApplyLog,
+        providers: &[Box<dyn Provider + Sync>],
+        given: &ProgramInput,
+        requests: Vec<Request>,
+        err: &mut E,
+    ) -> Result<(), AllocError>
+        ensures { OnOk result (Continues self.old self.new) }
+    {
+        for request in requests {
+            self.is_closed |= is_stopped(rt, &given.options.stop_file);
+            if self.is_closed {
+                return Ok(());
+            }
+            self.make(rt, log, providers, given, request, err)?;
+        }
+        Ok(())
+    }
+
+    /// Makes a call, unless it is begun already. If it is of a provider outside the program, it may first wait for others.
+    fn make<E: Write>(
+        &mut self,
+        rt: &HostRuntime,
+        log: &ApplyLog,
+        providers: &[Box<dyn Provider + Sync>],
+        given: &ProgramInput,
+        request: Request,
+        err: &mut E,
+    ) -> Result<(), AllocError>
+        ensures { OnOk result (Continues self.old self.new) }
+    {
+        let folders = given.options.providers.as_slice();
+        match self.types.provider_of(request.type_name.as_str()) {
+            Some(provider) => self.send(rt, log, folders, provider, request, err),
+            None => {
+                self.flush(rt.alloc(), log, folders, err)?;
+                self.call(log, providers, request)
+            }
+        }
+    }
+
+    /// Calls a provider of the program, unless this call is begun already.
     fn call(
         &mut self,
         log: &ApplyLog,
         providers: &[Box<dyn Provider + Sync>],
         request: Request,
-    ) -> Result<(), AllocError> {
-        if self.has_begun(&request) {
+    ) -> Result<(), AllocError>
+        ensures { OnOk result (Continues self.old self.new) }
+    {
+        if self.calls.has_begun(&request) {
             return Ok(());
         }
         let reply = match first_provider(providers, request.type_name.as_str()) {
             Some(provider) => provider.apply(&request),
             None => Reply::NoMemory,
         };
-        if log.is_lost() {
-            self.is_closed = true;
-        }
-        self.entries.push(LogEntry::Answered(request, reply))?;
-        Ok(())
+        self.is_closed |= log.is_lost();
+        self.calls.answer(request, reply)
     }
 
     /// Has a request wait until it is sent to its provider, once few enough requests are in flight or wait. Does nothing if it is
-    /// begun already.
+    /// begun already. A request whose line can't be built has no answer, and isn't tried again.
     fn send<E: Write>(
         &mut self,
         rt: &HostRuntime,
@@ -188,49 +207,55 @@ impl Session {
         provider: usize,
         request: Request,
         err: &mut E,
-    ) -> Result<(), AllocError> {
-        let alloc = rt.alloc();
-        let line = match request_line(alloc, self.next_id, &request) {
+    ) -> Result<(), AllocError>
+        ensures { OnOk result (Continues self.old self.new) }
+    {
+        let line = match request_line(rt.alloc(), self.next_id, &request) {
             Ok(line) => line,
             Err(Unsent::OutOfMemory) => return Err(AllocError),
-            Err(Unsent::Unfit) => return self.pass_over(request),
+            Err(Unsent::Unfit) => return self.calls.answer(request, Reply::NoMemory),
         };
-        for _ in 0..u64::MAX {
-            if self.is_closed || self.flights.has_room(&self.waiting, self.most, line.len()) {
-                break;
-            }
-            self.flush(alloc, log, folders, err)?;
-            self.receive(rt, log, folders, err)?;
-        }
-        if self.is_closed {
+        self.make_room(rt, log, folders, line.len(), err)?;
+        if self.is_closed || self.calls.has_begun(&request) {
             return Ok(());
         }
-        if self.has_begun(&request) {
-            return Ok(());
-        }
-        self.wait(provider, request, line)
-    }
-
-    /// Notes a request that can't be sent, so that it isn't tried again.
-    fn pass_over(&mut self, request: Request) -> Result<(), AllocError> {
-        self.entries
-            .push(LogEntry::Answered(request, Reply::NoMemory))?;
-        Ok(())
-    }
-
-    /// Has a request wait for the next sync of the log. It is neither in flight nor ended, and doesn't wait yet, so it wasn't sent
-    /// before.
-    fn wait(&mut self, provider: usize, request: Request, line: String) -> Result<(), AllocError>
-        requires { has_begun (asked request) self.old ≡ false }
-    {
         let id = self.next_id;
         self.next_id = id.saturating_add(1);
-        self.waiting.add(Flight {
+        self.calls.wait(Flight {
             id,
             provider,
             line,
             request,
         })
+    }
+
+    /// Sends what waits and takes replies, until few enough requests are in flight for a line of this size.
+    fn make_room<E: Write>(
+        &mut self,
+        rt: &HostRuntime,
+        log: &ApplyLog,
+        folders: &[String],
+        size: usize,
+        err: &mut E,
+    ) -> Result<(), AllocError>
+        ensures { OnOk result (Continues self.old self.new) }
+    {
+        for _ in 0..u64::MAX {
+            if self.is_closed || self.has_room(size) {
+                break;
+            }
+            self.flush(rt.alloc(), log, folders, err)?;
+            self.receive(rt, log, folders, err)?;
+        }
+        Ok(())
+    }
+
+    /// Returns whether few enough requests are in flight or wait for a line of this size.
+    fn has_room(&self, size: usize) -> bool {
+        let Calls {
+            waiting, flights, ..
+        } = &self.calls;
+        flights.has_room(waiting, self.most, size)
     }
 
     /// Writes that the waiting requests are begun, syncs the log once, and sends their lines. If the log can't say that one is begun,
@@ -241,24 +266,36 @@ impl Session {
         log: &ApplyLog,
         folders: &[String],
         err: &mut E,
-    ) -> Result<(), AllocError> {
-        let waiting = mem::replace(&mut self.waiting, Flights::new(alloc)).into_list();
+    ) -> Result<(), AllocError>
+        ensures { OnOk result (Continues self.old self.new) }
+    {
+        let mut waiting = self.calls.take_waiting(alloc);
         if waiting.is_empty() || self.is_closed {
             return Ok(());
         }
-        self.flights.reserve(waiting.len())?;
+        self.calls.reserve(waiting.len())?;
         let announced = announced(alloc, log, waiting.as_slice());
         let count = announced.len();
-        for (announced, flight) in announced.into_iter().zip(waiting.as_slice()) {
+        self.write_all(folders, announced, waiting.as_slice(), err);
+        self.is_closed |= count < waiting.len();
+        waiting.truncate(count);
+        self.calls.add_sent(waiting);
+        Ok(())
+    }
+
+    /// Writes the lines of requests to the pipes of their providers.
+    fn write_all<E: Write>(
+        &mut self,
+        folders: &[String],
+        announced: Vec<Announced<'_>>,
+        waiting: &[Flight],
+        err: &mut E,
+    )
+        ensures { (self.new.types ≡ self.old.types) × (self.new.calls ≡ self.old.calls) }
+    {
+        for (announced, flight) in announced.into_iter().zip(waiting) {
             self.write(folders, announced, flight, err);
         }
-        if count < waiting.len() {
-            self.is_closed = true;
-        }
-        for flight in waiting.into_iter().take(count) {
-            self.flights.add(flight)?;
-        }
-        Ok(())
     }
 
     /// Writes the line of a request to the pipe of its provider, unless that is lost.
@@ -268,7 +305,9 @@ impl Session {
         announced: Announced<'_>,
         flight: &Flight,
         err: &mut E,
-    ) {
+    )
+        ensures { (self.new.types ≡ self.old.types) × (self.new.calls ≡ self.old.calls) }
+    {
         if self.lost.get(flight.provider) == Some(&true) {
             return;
         }
@@ -289,29 +328,48 @@ impl Session {
         log: &ApplyLog,
         folders: &[String],
         err: &mut E,
-    ) -> Result<(), AllocError> {
-        let Some(provider) = self.flights.next_provider(&self.lost) else {
+    ) -> Result<(), AllocError>
+        ensures { OnOk result (Continues self.old self.new) }
+    {
+        let Some(provider) = self.calls.flights.next_provider(&self.lost) else {
             return Ok(());
         };
-        let Some(pipe) = self.pipes.get_mut(provider) else {
-            return Ok(());
+        let received = match self.pipes.get_mut(provider) {
+            Some(pipe) => pipe.receive(rt),
+            None => return Ok(()),
         };
-        match pipe.receive(rt) {
-            Ok(responses) => {
-                let is_faulty = responses.is_faulty;
-                for response in responses.replies {
-                    self.take(rt.alloc(), log, folders, provider, response, err)?;
-                }
-                if is_faulty {
-                    self.lose(folders, provider, Loss::NotAReply, err);
-                }
+        match received {
+            Ok(responses) => self.take_all(rt.alloc(), log, folders, provider, responses, err),
+            Err(loss) => {
+                self.lose(folders, provider, loss, err);
+                Ok(())
             }
-            Err(loss) => self.lose(folders, provider, loss, err),
+        }
+    }
+
+    /// Takes the replies of a provider, which is lost if a line of it wasn't a reply.
+    fn take_all<E: Write>(
+        &mut self,
+        alloc: Global,
+        log: &ApplyLog,
+        folders: &[String],
+        provider: usize,
+        responses: Responses,
+        err: &mut E,
+    ) -> Result<(), AllocError>
+        ensures { OnOk result (Continues self.old self.new) }
+    {
+        let is_faulty = responses.is_faulty;
+        for response in responses.replies {
+            self.take(alloc, log, folders, provider, response, err)?;
+        }
+        if is_faulty {
+            self.lose(folders, provider, Loss::NotAReply, err);
         }
         Ok(())
     }
 
-    /// Takes a reply: writes it to the log, and then uses it.
+    /// Takes a reply: writes it to the log, and then uses it. A request stays in flight if the log can't hold its reply.
     fn take<E: Write>(
         &mut self,
         alloc: Global,
@@ -320,30 +378,32 @@ impl Session {
         provider: usize,
         response: Response,
         err: &mut E,
-    ) -> Result<(), AllocError> {
+    ) -> Result<(), AllocError>
+        ensures { OnOk result (Continues self.old self.new) }
+    {
         if self.lost.get(provider) == Some(&true) {
             return Ok(());
         }
         let Response { id, reply } = response;
-        let Some(flight) = self.flights.take(provider, id) else {
+        let Some(place) = self.calls.flights.place_of(provider, id) else {
             self.lose(folders, provider, Loss::Unasked, err);
             return Ok(());
         };
-        if log.receive(alloc, &flight.request, &reply).is_err() {
-            if !log.is_lost() {
-                self.lose(folders, provider, Loss::TooDeep, err);
-                return self.flights.add(flight);
-            }
-            self.is_closed = true;
+        let flight = &self.calls.flights.list()[place];
+        let is_logged = log.receive(alloc, &flight.request, &reply).is_ok();
+        if !is_logged && !log.is_lost() {
+            self.lose(folders, provider, Loss::TooDeep, err);
+            return Ok(());
         }
         self.events.end(&flight.request, &reply, None);
-        self.entries
-            .push(LogEntry::Answered(flight.request, reply))?;
-        Ok(())
+        self.is_closed |= !is_logged;
+        self.calls.end(place, reply)
     }
 
     /// Notes that a provider is lost, and prints why. Nothing more is begun.
-    fn lose<E: Write>(&mut self, folders: &[String], provider: usize, loss: Loss, err: &mut E) {
+    fn lose<E: Write>(&mut self, folders: &[String], provider: usize, loss: Loss, err: &mut E)
+        ensures { (self.new.types ≡ self.old.types) × (self.new.calls ≡ self.old.calls) }
+    {
         self.is_closed = true;
         if let Some(lost) = self.lost.get_mut(provider) {
             if *lost {

@@ -1,0 +1,6 @@
+-- what waited is sent, and then the call is made
+use Rattle.tf_session.proofs.Kept.{continues_on}
+use Rattle.tf_session.proofs.session.Session.make.Goals as goal
+
+pub returns-in_ok-flush-in-None : goal.returns-in_ok-flush-in-None
+returns-in_ok-flush-in-None g c = continues_on c.call.result _ _ _ c.in_ok-flush-in-None.ensures c.call.ensures

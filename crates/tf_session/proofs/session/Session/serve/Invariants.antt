@@ -1,0 +1,6 @@
+-- the session goes on
+use Rattle.tf_session.specs.Calls.{Continues}
+use Rattle.tf_session.proofs.session.Session.serve.Given as goal
+
+abbrev pub invariant-loop : goal.invariant-loop
+invariant-loop g l = Continues l.fn.self l.self
