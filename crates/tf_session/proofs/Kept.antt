@@ -1,18 +1,21 @@
 -- Calls that are kept.
-use Rattle.std.proofs.Common.{◌≡◌, ◌≤◌, ◌<◌, ◌∙◌, ◌++◌, ◌⊎◌, ◌∷◌, [], ℕ, List, ap, arith, drop, inl, inr, length, map, refl, subst, sym, take}
+use Rattle.std.proofs.Common.{◌≡◌, ◌≤◌, ◌<◌, ◌∙◌, ◌++◌, ◌⊎◌, ◌||◌, ◌∷◌, [], ℕ, Bool, List, ap, arith, drop, false, inl, inr, length, map, nat_lt, refl, subst, sym, take, true}
 use Rattle.std.proofs.Math.Seq.{take-append_seam}
-use Rattle.std.proofs.lemmas.List.{append-nil, length-take, map-append, take-append-drop, take-append-le}
+use Rattle.std.proofs.lemmas.Bool.{cases_lt, lt-ltb}
+use Rattle.std.proofs.lemmas.List.{append-nil, length-take, map-append, take-append-drop, take-append-le, take_all}
 use Rattle.std.proofs.lemmas.List.Elements.{Contains-append_cases, Contains-append_left, Contains-append_right, Contains-push, Contains-push_cases}
 use Rattle.std.proofs.lemmas.List.Sorted.{Contains-permutation, IsPermutation-map, IsPermutation-remove}
 use Rattle.std.specs.List.{Contains, remove}
-use Rattle.std.specs.Prelude.{Err, IsOk, MatchResult, Ok, OnOk, Result, slice_index_or}
+use Rattle.std.specs.Prelude.{Err, IsOk, MatchResult, Ok, OnOk, Result, Vec, slice_index_or}
+use Rattle.std.specs.declared.alloc.Global.{Global}
 use Rattle.tf_provider_log.specs.LogEntry.{log_entry_of}
 use Rattle.tf_provider_log.specs.declared.entry.LogEntry.{LogEntry}
 use Rattle.tf_provider_log.specs.declared.entry.LogEntry.TheVariants.{Answered}
 use Rattle.tf_provider_protocol.specs.Meaning.{Asked, asked}
 use Rattle.tf_provider_protocol.specs.declared.request.Reply.{Reply}
 use Rattle.tf_provider_remote.specs.declared.flights.Flight.{Flight}
-use Rattle.tf_session.specs.Calls.{AreKept, Continues, made, request_in}
+use Rattle.tf_provider_remote.specs.declared.flights.Flights.{Flights}
+use Rattle.tf_session.specs.Calls.{AreKept, Continues, made, request_in, taken_up}
 use Rattle.tf_session.specs.declared.calls.Calls.{Calls}
 use Rattle.tf_session.specs.declared.session.Session.{Session}
 
@@ -67,6 +70,25 @@ begins_then xs ys zs a b =
     let shorter : length xs ≤ length ys = omega (arith, as_long) in
     ap (take (length xs)) (sym (take-append-drop (length ys) zs)) ∙ ap (λ l. take (length xs) (l ++ drop (length ys) zs)) b ∙ take-append-le (length xs) ys (drop (length ys) zs) shorter ∙ a
 
+pub or_left : (a b : Bool) → a ≡ true → (a || b) ≡ true
+or_left true b e = refl
+or_left false b e = absurd (cc)
+
+pub or_right : (a b : Bool) → b ≡ true → (a || b) ≡ true
+or_right true b e = refl
+or_right false b e = e
+
+-- what is in three lists is in the last two, if the first is put behind the second
+sent_all : (ws fs es : List Asked) (q : Asked) → Contains (ws ++ (fs ++ es)) q → Contains ((fs ++ ws) ++ es) q
+sent_all ws fs es q h =
+    elim (Contains-append_cases ws (fs ++ es) q h) [
+      | inl waits ↦ Contains-append_left (fs ++ ws) es q (Contains-append_right fs ws q waits)
+      | inr sent ↦ (elim (Contains-append_cases fs es q sent) [
+        | inl flies ↦ Contains-append_left (fs ++ ws) es q (Contains-append_left fs ws q flies)
+        | inr ended ↦ Contains-append_right (fs ++ ws) es q ended
+      ])
+    ]
+
 -- calls are kept if the same are in flight and have ended
 pub kept_same : (c d : Calls) → d.flights.flights.items ≡ c.flights.flights.items → d.entries.items ≡ c.entries.items → AreKept c d
 kept_same c d f e = record {
@@ -103,21 +125,92 @@ kept_then c d e one other = record {
   ended = begins_then c.entries.items d.entries.items e.entries.items one.ended other.ended;
 }
 
--- a session continues if it has the same types and keeps its calls, for as long as there is memory
-pub continues_by : {A E : Type 0} (r : Result A E) (a b : Session) → b.types ≡ a.types → AreKept a.calls b.calls → OnOk r (Continues a b)
-continues_by (Ok v) a b types calls = record { types = types; calls = calls }
-continues_by (Err e) a b types calls = tt
+-- what holds if a result isn't an error
+pub only_ok : {A E : Type 0} (r : Result A E) (P Q : Type 0) → IsOk r → MatchResult r (λ _. P) (λ _. Q) → P
+only_ok (Ok a) P Q is holds = holds
+only_ok (Err e) P Q is holds = absurd (cc)
+
+-- what is begun stays begun if the same requests wait and the calls are kept
+pub begun_kept : (c d : Calls) → d.waiting.flights.items ≡ c.waiting.flights.items → AreKept c d → (q : Asked) → Contains (taken_up c) q → Contains (taken_up d) q
+begun_kept c d same kept q h =
+    elim (Contains-append_cases (map (λ f. asked f.request) c.waiting.flights.items) (made c) q h) [
+      | inl there ↦ Contains-append_left (map (λ f. asked f.request) d.waiting.flights.items) (made d) q (rw same there)
+      | inr there ↦ Contains-append_right (map (λ f. asked f.request) d.waiting.flights.items) (made d) q (kept.made q there)
+    ]
+
+-- what is begun stays begun if one request more waits
+pub begun_waits : (c d : Calls) (f : Flight) → d.waiting.flights.items ≡ c.waiting.flights.items ++ f ∷ [] → d.flights ≡ c.flights → d.entries ≡ c.entries → (q : Asked) → Contains (taken_up c) q → Contains (taken_up d) q
+begun_waits c d f waits flights entries q h = rw (waits, flights, entries) (more_left (λ (f : Flight). asked f.request) c.waiting.flights.items (f ∷ []) (made c) q h)
+
+-- requests that waited are in flight, if all of them are sent
+all_sent : (was : Bool) (count : ℕ) (ws fs : List Flight) (es : List Asked) (q : Asked) → Contains (map (λ f. asked f.request) ws ++ (map (λ f. asked f.request) fs ++ es)) q
+    → ((was || nat_lt count (length ws)) ≡ true) ⊎ Contains (map (λ f. asked f.request) (fs ++ take count ws) ++ es) q
+all_sent was count ws fs es q h =
+    elim (cases_lt count (length ws)) [
+      | inl fewer ↦ inl (or_right was (nat_lt count (length ws)) (lt-ltb count (length ws) fewer))
+      | inr all ↦ inr (rw (take_all count ws all, map-append (λ (f : Flight). asked f.request) fs ws) (sent_all (map (λ f. asked f.request) ws) (map (λ f. asked f.request) fs) es q h))
+    ]
+
+-- the calls of a session after its requests that waited were sent
+pub begun_sent : (c d : Calls) (was : Bool) (count : ℕ) → d.waiting.flights.items ≡ [] → d.flights.flights.items ≡ c.flights.flights.items ++ take count c.waiting.flights.items → d.entries ≡ c.entries
+    → (q : Asked) → Contains (taken_up c) q → ((was || nat_lt count (length c.waiting.flights.items)) ≡ true) ⊎ Contains (taken_up d) q
+begun_sent c d was count none flights entries q h = rw (none, flights, entries) (all_sent was count c.waiting.flights.items c.flights.flights.items (map (λ e. request_in (log_entry_of e)) c.entries.items) q h)
+
+-- a session continues if it has the same types and calls
+pub continues_same : (a b : Session) → (b.types ≡ a.types) × (b.calls ≡ a.calls) → (a.is_closed ≡ true → b.is_closed ≡ true) → Continues a b
+continues_same a b (types, calls) closed = record {
+  types = types;
+  calls = kept_same a.calls b.calls (ap (λ (c : Calls). c.flights.flights.items) calls) (ap (λ (c : Calls). c.entries.items) calls);
+  closed = closed;
+  taken_up = λ q h. inr (rw calls h);
+}
+
+-- a session continues if it has the same types, keeps its calls, and the same requests wait
+pub continues_by : {A E : Type 0} (r : Result A E) (a b : Session) → b.types ≡ a.types → (a.is_closed ≡ true → b.is_closed ≡ true) → b.calls.waiting ≡ a.calls.waiting → AreKept a.calls b.calls → OnOk r (Continues a b)
+continues_by (Ok v) a b types closed waiting calls = record {
+  types = types;
+  calls = calls;
+  closed = closed;
+  taken_up = λ q h. inr (begun_kept a.calls b.calls (ap (λ (w : Flights). w.flights.items) waiting) calls q h);
+}
+continues_by (Err e) a b types closed waiting calls = tt
+
+-- a session continues if one request more waits
+pub continues_waits : {A E : Type 0} (r : Result A E) (a b : Session) (f : Flight) → (b.types ≡ a.types) × (b.is_closed ≡ a.is_closed) → (b.calls.flights ≡ a.calls.flights) × (b.calls.entries ≡ a.calls.entries)
+    → OnOk r (b.calls.waiting.flights.items ≡ a.calls.waiting.flights.items ++ f ∷ []) → OnOk r (Continues a b)
+continues_waits (Ok v) a b f (types, closed) (flights, entries) waits = record {
+  types = types;
+  calls = kept_same a.calls b.calls (ap (λ (w : Flights). w.flights.items) flights) (ap (λ (es : Vec LogEntry Global). es.items) entries);
+  closed = λ e. closed ∙ e;
+  taken_up = λ q h. inr (begun_waits a.calls b.calls f waits flights entries q h);
+}
+continues_waits (Err e) a b f same others waits = tt
 
 -- a session that continues twice continues
 pub continues_then : (a b c : Session) → Continues a b → Continues b c → Continues a c
-continues_then a b c one other = record { types = other.types ∙ one.types; calls = kept_then a.calls b.calls c.calls one.calls other.calls }
+continues_then a b c one other = record {
+  types = other.types ∙ one.types;
+  calls = kept_then a.calls b.calls c.calls one.calls other.calls;
+  closed = λ e. other.closed (one.closed e);
+  taken_up = λ q h. elim (one.taken_up q h) [ | inl e ↦ inl (other.closed e) | inr there ↦ other.taken_up q there ];
+}
 
 -- a session that continues, and then continues for as long as there is memory
 pub continues_on : {A E : Type 0} (r : Result A E) (a b c : Session) → Continues a b → OnOk r (Continues b c) → OnOk r (Continues a c)
 continues_on (Ok v) a b c one other = continues_then a b c one other
 continues_on (Err e) a b c one other = tt
 
--- what holds if a result isn't an error
-pub only_ok : {A E : Type 0} (r : Result A E) (P Q : Type 0) → IsOk r → MatchResult r (λ _. P) (λ _. Q) → P
-only_ok (Ok a) P Q is holds = holds
-only_ok (Err e) P Q is holds = absurd (cc)
+-- the calls of a session after those that waited were sent: they are taken out, there is memory for them, and those that were announced are in flight
+pub flushed : (a b c d e : Calls) (was : Bool) (count n : ℕ) (waited sent : List Flight) → (b.flights ≡ a.flights) × (b.entries ≡ a.entries) → waited ≡ a.waiting.flights.items → b.waiting.flights.items ≡ []
+    → (c.waiting ≡ b.waiting) × (c.entries ≡ b.entries) → c.flights.flights.items ≡ b.flights.flights.items → d ≡ c → n ≡ length waited → sent ≡ take count waited
+    → (e.waiting ≡ d.waiting) × (e.entries ≡ d.entries) → e.flights.flights.items ≡ d.flights.flights.items ++ sent
+    → AreKept a e × ((q : Asked) → Contains (taken_up a) q → ((was || nat_lt count n) ≡ true) ⊎ Contains (taken_up e) q)
+flushed a b c d e was count n waited sent taken all none reserved same written many cut others added =
+    let entries : e.entries ≡ a.entries = others.1 ∙ ap (λ (x : Calls). x.entries) written ∙ reserved.1 ∙ taken.1 in
+    let waiting : e.waiting.flights.items ≡ [] = ap (λ (w : Flights). w.flights.items) (others.0 ∙ ap (λ (x : Calls). x.waiting) written ∙ reserved.0) ∙ none in
+    let flights : d.flights.flights.items ≡ a.flights.flights.items = ap (λ (x : Calls). x.flights.flights.items) written ∙ same ∙ ap (λ (w : Flights). w.flights.items) taken.0 in
+    let more : e.flights.flights.items ≡ a.flights.flights.items ++ take count a.waiting.flights.items = added ∙ ap (λ fs. fs ++ sent) flights ∙ ap (λ fs. a.flights.flights.items ++ fs) (cut ∙ ap (take count) all) in
+    let as_many : n ≡ length a.waiting.flights.items = many ∙ ap length all in (
+      kept_sent a e (take count a.waiting.flights.items) more (ap (λ (es : Vec LogEntry Global). es.items) entries),
+      λ q h. rw as_many (begun_sent a e was count waiting more entries q h),
+    )

@@ -1,2 +1,4 @@
 mod Kept
+mod Same
+mod Served
 mod Together

@@ -57,7 +57,7 @@ impl Calls {
     /// before.
     pub(crate) fn wait(&mut self, flight: Flight) -> Result<(), AllocError>
         requires { has_begun (asked flight.request) self.old ≡ false }
-        ensures kept { AreKept self.old self.new }
+        ensures others { (self.new.flights ≡ self.old.flights) × (self.new.entries ≡ self.old.entries) }
         ensures waits { OnOk result (self.new.waiting.flights.items ≡ self.old.waiting.flights.items ++ flight ∷ []) }
     {
         self.waiting.add(flight)
@@ -65,7 +65,7 @@ impl Calls {
 
     /// Takes the requests that wait, to send them. After that, none waits.
     pub(crate) fn take_waiting(&mut self, alloc: Global) -> Vec<Flight>
-        ensures kept { AreKept self.old self.new }
+        ensures others { (self.new.flights ≡ self.old.flights) × (self.new.entries ≡ self.old.entries) }
         ensures waited { result.items ≡ self.old.waiting.flights.items }
         ensures none { self.new.waiting.flights.items ≡ [] }
     {
@@ -78,7 +78,8 @@ impl Calls {
     ///
     /// Fails only if memory runs out.
     pub(crate) fn reserve(&mut self, additional: usize) -> Result<(), AllocError>
-        ensures kept { AreKept self.old self.new }
+        ensures others { (self.new.waiting ≡ self.old.waiting) × (self.new.entries ≡ self.old.entries) }
+        ensures same { self.new.flights.flights.items ≡ self.old.flights.flights.items }
         ensures room { OnOk result (length self.new.flights.flights.items + additional ≤ vec_capacity self.new.flights.flights) }
     {
         self.flights.reserve(additional)
@@ -87,7 +88,7 @@ impl Calls {
     /// Adds requests that were sent to those in flight. There has to be memory for them (`reserve`).
     pub(crate) fn add_sent(&mut self, sent: Vec<Flight>)
         requires { length self.old.flights.flights.items + length sent.items ≤ vec_capacity self.old.flights.flights }
-        ensures kept { AreKept self.old self.new }
+        ensures others { (self.new.waiting ≡ self.old.waiting) × (self.new.entries ≡ self.old.entries) }
         ensures sent { self.new.flights.flights.items ≡ self.old.flights.flights.items ++ sent.items }
     {
         self.flights.append(sent);
@@ -98,9 +99,10 @@ impl Calls {
     /// # Errors
     ///
     /// Fails only if memory runs out. Then the request stays in flight.
-    pub(crate) fn end(&mut self, place: usize, reply: Reply) -> Result<(), AllocError>
+    pub(crate) fn end_at(&mut self, place: usize, reply: Reply) -> Result<(), AllocError>
         requires { place < length self.old.flights.flights.items }
-        ensures { AreKept self.old self.new }
+        ensures waiting { self.new.waiting ≡ self.old.waiting }
+        ensures kept { AreKept self.old self.new }
     {
         self.entries.reserve(1)?;
         let flight = self.flights.take(place);

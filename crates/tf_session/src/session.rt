@@ -1,9 +1,9 @@
 //! The calls of an apply with providers outside the program.
 
-ghost use Rattle.std.specs.Prelude.{◌≡◌, ◌&&◌, ◌||◌, [], IfOk, OnOk, false, is_none, map};
+ghost use Rattle.std.specs.Prelude.{◌≡◌, ◌&&◌, ◌||◌, ◌⊎◌, [], All, IfOk, OnOk, is_none, map, true};
 ghost use Rattle.tf_provider_protocol.specs.Meaning.{asked};
 ghost use Rattle.tf_provider_remote.specs.Flights.{next_provider};
-ghost use Rattle.tf_session.specs.Calls.{Continues, have_begun};
+ghost use Rattle.tf_session.specs.Calls.{Continues, IsMade, IsTakenUp, have_begun};
 
 use crate::calls::Calls;
 use crate::pipes::{Loss, Pipe};
@@ -121,7 +121,8 @@ impl Session {
         unanswered: Vec<Request>,
         err: &mut E,
     ) -> Result<(), AllocError>
-        ensures { OnOk result (Continues self.old self.new) }
+        ensures continues { OnOk result (Continues self.old self.new) }
+        ensures made { OnOk result (All (λ r. IsMade (asked r) self.new) unanswered.items) }
     {
         self.make_all(rt, log, providers, given, unanswered, err)?;
         let folders = given.options.providers.as_slice();
@@ -143,16 +144,25 @@ impl Session {
         requests: Vec<Request>,
         err: &mut E,
     ) -> Result<(), AllocError>
-        ensures { OnOk result (Continues self.old self.new) }
+        ensures continues { OnOk result (Continues self.old self.new) }
+        ensures taken_up { OnOk result (All (λ r. IsTakenUp (asked r) self.new) requests.items) }
     {
         for request in requests {
-            self.is_closed |= is_stopped(rt, &given.options.stop_file);
+            self.heed_stop_file(rt, given);
             if self.is_closed {
                 return Ok(());
             }
             self.make(rt, log, providers, given, request, err)?;
         }
         Ok(())
+    }
+
+    /// Begins nothing more if the options name a file that stops an apply, and it exists.
+    fn heed_stop_file(&mut self, rt: &HostRuntime, given: &ProgramInput)
+        ensures same { (self.new.types ≡ self.old.types) × (self.new.calls ≡ self.old.calls) }
+        ensures closed { self.old.is_closed ≡ true → self.new.is_closed ≡ true }
+    {
+        self.is_closed |= is_stopped(rt, &given.options.stop_file);
     }
 
     /// Makes a call, unless it is begun already. If it is of a provider outside the program, it may first wait for others.
@@ -165,7 +175,8 @@ impl Session {
         request: Request,
         err: &mut E,
     ) -> Result<(), AllocError>
-        ensures { OnOk result (Continues self.old self.new) }
+        ensures continues { OnOk result (Continues self.old self.new) }
+        ensures taken_up { OnOk result (IsTakenUp (asked request) self.new) }
     {
         let folders = given.options.providers.as_slice();
         match self.types.provider_of(request.type_name.as_str()) {
@@ -184,7 +195,8 @@ impl Session {
         providers: &[Box<dyn Provider + Sync>],
         request: Request,
     ) -> Result<(), AllocError>
-        ensures { OnOk result (Continues self.old self.new) }
+        ensures continues { OnOk result (Continues self.old self.new) }
+        ensures taken_up { OnOk result (IsTakenUp (asked request) self.new) }
     {
         if self.calls.has_begun(&request) {
             return Ok(());
@@ -208,7 +220,8 @@ impl Session {
         request: Request,
         err: &mut E,
     ) -> Result<(), AllocError>
-        ensures { OnOk result (Continues self.old self.new) }
+        ensures continues { OnOk result (Continues self.old self.new) }
+        ensures taken_up { OnOk result (IsTakenUp (asked request) self.new) }
     {
         let line = match request_line(rt.alloc(), self.next_id, &request) {
             Ok(line) => line,
@@ -216,7 +229,10 @@ impl Session {
             Err(Unsent::Unfit) => return self.calls.answer(request, Reply::NoMemory),
         };
         self.make_room(rt, log, folders, line.len(), err)?;
-        if self.is_closed || self.calls.has_begun(&request) {
+        if self.is_closed {
+            return Ok(());
+        }
+        if self.calls.has_begun(&request) {
             return Ok(());
         }
         let id = self.next_id;
@@ -267,12 +283,13 @@ impl Session {
         folders: &[String],
         err: &mut E,
     ) -> Result<(), AllocError>
-        ensures { OnOk result (Continues self.old self.new) }
+        ensures continues { OnOk result (Continues self.old self.new) }
+        ensures sent { OnOk result ((self.new.is_closed ≡ true) ⊎ (self.new.calls.waiting.flights.items ≡ [])) }
     {
-        let mut waiting = self.calls.take_waiting(alloc);
-        if waiting.is_empty() || self.is_closed {
+        if self.is_closed || self.calls.waiting.is_empty() {
             return Ok(());
         }
+        let mut waiting = self.calls.take_waiting(alloc);
         self.calls.reserve(waiting.len())?;
         let announced = announced(alloc, log, waiting.as_slice());
         let count = announced.len();
@@ -291,7 +308,8 @@ impl Session {
         waiting: &[Flight],
         err: &mut E,
     )
-        ensures { (self.new.types ≡ self.old.types) × (self.new.calls ≡ self.old.calls) }
+        ensures same { (self.new.types ≡ self.old.types) × (self.new.calls ≡ self.old.calls) }
+        ensures closed { self.old.is_closed ≡ true → self.new.is_closed ≡ true }
     {
         for (announced, flight) in announced.into_iter().zip(waiting) {
             self.write(folders, announced, flight, err);
@@ -306,7 +324,8 @@ impl Session {
         flight: &Flight,
         err: &mut E,
     )
-        ensures { (self.new.types ≡ self.old.types) × (self.new.calls ≡ self.old.calls) }
+        ensures same { (self.new.types ≡ self.old.types) × (self.new.calls ≡ self.old.calls) }
+        ensures closed { self.old.is_closed ≡ true → self.new.is_closed ≡ true }
     {
         if self.lost.get(flight.provider) == Some(&true) {
             return;
@@ -397,12 +416,13 @@ impl Session {
         }
         self.events.end(&flight.request, &reply, None);
         self.is_closed |= !is_logged;
-        self.calls.end(place, reply)
+        self.calls.end_at(place, reply)
     }
 
     /// Notes that a provider is lost, and prints why. Nothing more is begun.
     fn lose<E: Write>(&mut self, folders: &[String], provider: usize, loss: Loss, err: &mut E)
-        ensures { (self.new.types ≡ self.old.types) × (self.new.calls ≡ self.old.calls) }
+        ensures same { (self.new.types ≡ self.old.types) × (self.new.calls ≡ self.old.calls) }
+        ensures closed { self.new.is_closed ≡ true }
     {
         self.is_closed = true;
         if let Some(lost) = self.lost.get_mut(provider) {

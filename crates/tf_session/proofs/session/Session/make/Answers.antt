@@ -2,5 +2,5 @@
 use Rattle.tf_session.proofs.Kept.{continues_on}
 use Rattle.tf_session.proofs.session.Session.make.Goals as goal
 
-pub returns-in_ok-flush-in-None : goal.returns-in_ok-flush-in-None
-returns-in_ok-flush-in-None g c = continues_on c.call.result _ _ _ c.in_ok-flush-in-None.ensures c.call.ensures
+pub returns-in_ok-flush-in-None-clause-continues : goal.returns-in_ok-flush-in-None-clause-continues
+returns-in_ok-flush-in-None-clause-continues g c = continues_on c.call.result _ _ _ c.in_ok-flush-in-None.ensures.continues c.call.ensures.continues

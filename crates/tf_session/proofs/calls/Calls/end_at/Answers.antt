@@ -1,10 +1,10 @@
 -- the request at the place has ended
 use Rattle.std.proofs.Common.{◌≡◌, ◌∙◌, ◌<◌, ap, arith, length, vec_capacity}
 use Rattle.tf_session.proofs.Kept.{kept_ended, only_ok}
-use Rattle.tf_session.proofs.calls.Calls.end.Goals as goal
+use Rattle.tf_session.proofs.calls.Calls.end_at.Goals as goal
 
-pub returns : goal.returns
-returns c =
+pub returns-clause-kept : goal.returns-clause-kept
+returns-clause-kept c =
     let room : length c.reserve.new.self.items < vec_capacity c.reserve.new.self = omega (arith, c.in_ok-reserve.ensures.ok) in
     let entries = only_ok c.answer.result _ _ (c.answer.ensures.succeeds room) c.answer.ensures.answered in
     kept_ended _ _ c.args.place c.take-flight.result c.args.reply c.requires c.take-flight.ensures.taken (ap (λ f. f.flights.items) c.answer.ensures.others.1 ∙ c.take-flight.ensures.others) (rw (← c.in_ok-reserve.ensures.items) entries)
