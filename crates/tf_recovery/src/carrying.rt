@@ -1,9 +1,11 @@
 //! An apply with providers outside the program, from the first call to the state.
 
-ghost use Rattle.std.specs.Prelude.{◌≡◌, IfOk, map};
+ghost use Rattle.std.specs.Prelude.{◌≡◌, IfOk, None, OnOk, map};
 ghost use Rattle.tf_provider_log.specs.LogEntry.{log_entry_of};
 ghost use Rattle.tf_cli.specs.Applies.{MayStart};
+ghost use Rattle.tf_provider_remote.specs.Flights.{next_provider};
 ghost use Rattle.tf_recovery.specs.Outcome.{IsOutcome};
+ghost use Rattle.tf_session.specs.Calls.{Continues};
 ghost use Rattle.tf_session.specs.Outside.{outside_meanings, outside_replayed};
 ghost use Rattle.tf_walk_action.specs.Words.{plan_of};
 
@@ -22,7 +24,8 @@ use tf_provider_protocol::Request;
 use tf_provider_remote::RemoteTypes;
 use tf_session::{ApplyLog, Session};
 
-/// Applies what was given, whose plan this is: makes the calls that the log doesn't answer, until it answers all that are asked for.
+/// Applies what was given, whose plan this is: makes the calls that the log doesn't answer, until it answers all that are asked for, or
+/// nothing more is to be begun and no reply can come any more. Forgets no call, so none is made twice.
 pub(crate) fn carried_out<T: Wait, E: Write>(
     rt: &HostRuntime,
     threads: &T,
@@ -35,7 +38,9 @@ pub(crate) fn carried_out<T: Wait, E: Write>(
     err: &mut E,
 ) -> Result<Result<Applied, Refused>, AllocError>
     requires { MayStart (outside_meanings (⟦<RemoteTypes as Provider>⟧.meaning types.now)) (plan_of planned.now) }
-    ensures { IfOk result (λ answer. IsOutcome (outside_replayed (⟦<RemoteTypes as Provider>⟧.meaning session.new.types) (map log_entry_of session.new.entries.items)) given.now answer) }
+    ensures outcome { IfOk result (λ answer. IsOutcome (outside_replayed (⟦<RemoteTypes as Provider>⟧.meaning session.new.types) (map log_entry_of session.new.calls.entries.items)) given.now answer) }
+    ensures continues { OnOk result (Continues session.old session.new) }
+    ensures no_reply { OnOk result (next_provider session.new.lost.items session.new.calls.flights.flights.items ≡ None) }
 {
     for _ in threads.forever() {
         let unanswered = match calls_to_make(rt, types, planned, session)? {
@@ -56,7 +61,7 @@ pub(crate) fn carried_out<T: Wait, E: Write>(
 
 /// Applies what was given, by providers that answer what the log of a session says so far.
 fn applied(rt: &HostRuntime, given: &ProgramInput, session: &Session) -> Result<Walk, AllocError>
-    ensures { IfOk result (λ walk. IsOutcome (outside_replayed (⟦<RemoteTypes as Provider>⟧.meaning session.now.types) (map log_entry_of session.now.entries.items)) given.now walk.answer) }
+    ensures { IfOk result (λ walk. IsOutcome (outside_replayed (⟦<RemoteTypes as Provider>⟧.meaning session.now.types) (map log_entry_of session.now.calls.entries.items)) given.now walk.answer) }
 {
     apply_over_log(rt, given, session.types(), session.entries())
 }

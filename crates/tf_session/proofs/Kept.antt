@@ -15,7 +15,7 @@ use Rattle.tf_provider_protocol.specs.Meaning.{Asked, asked}
 use Rattle.tf_provider_protocol.specs.declared.request.Reply.{Reply}
 use Rattle.tf_provider_remote.specs.declared.flights.Flight.{Flight}
 use Rattle.tf_provider_remote.specs.declared.flights.Flights.{Flights}
-use Rattle.tf_session.specs.Calls.{AreKept, Continues, made, request_in, taken_up}
+use Rattle.tf_session.specs.Calls.{AreKept, Continues, IsNoted, made, request_in, taken_up}
 use Rattle.tf_session.specs.declared.calls.Calls.{Calls}
 use Rattle.tf_session.specs.declared.session.Session.{Session}
 
@@ -35,7 +35,7 @@ more_right f ys xs more q h =
     ]
 
 -- what is in a list that isn't empty is its first item or in the rest
-first_or_later : {Y : Type 0} (y : Y) (ys : List Y) (q : Y) → Contains (y ∷ ys) q → Contains ys q ⊎ (y ≡ q)
+pub first_or_later : {Y : Type 0} (y : Y) (ys : List Y) (q : Y) → Contains (y ∷ ys) q → Contains ys q ⊎ (y ≡ q)
 first_or_later y ys q h =
     elim (Contains-append_cases (y ∷ []) ys q h) [
       | inl there ↦ (elim (Contains-push_cases [] y q there) [
@@ -124,6 +124,11 @@ kept_then c d e one other = record {
   made = λ q h. other.made q (one.made q h);
   ended = begins_then c.entries.items d.entries.items e.entries.items one.ended other.ended;
 }
+
+-- what holds, holds for as long as there is memory
+pub always : {A E : Type 0} (r : Result A E) (P : Type 0) → P → OnOk r P
+always (Ok a) P holds = holds
+always (Err e) P holds = tt
 
 -- what holds if a result isn't an error
 pub only_ok : {A E : Type 0} (r : Result A E) (P Q : Type 0) → IsOk r → MatchResult r (λ _. P) (λ _. Q) → P
@@ -214,3 +219,11 @@ flushed a b c d e was count n waited sent taken all none reserved same written m
       kept_sent a e (take count a.waiting.flights.items) more (ap (λ (es : Vec LogEntry Global). es.items) entries),
       λ q h. rw as_many (begun_sent a e was count waiting more entries q h),
     )
+
+-- the request at a place, which has a number and was sent to a provider, is the one whose reply is noted
+pub noted_at : {A E : Type 0} (r : Result A E) (provider id place : ℕ) (reply : Reply) (c d : Calls) → place < length c.flights.flights.items
+    → ((f : Flight) → ((slice_index_or c.flights.flights.items place f).id ≡ id) × ((slice_index_or c.flights.flights.items place f).provider ≡ provider))
+    → OnOk r ((f : Flight) × (f ≡ slice_index_or c.flights.flights.items place f) × (d.entries.items ≡ c.entries.items ++ Answered f.request reply ∷ [])) → OnOk r (IsNoted provider id reply c d)
+noted_at (Ok v) provider id place reply c d within sent (f, is, entries) =
+    inr (f, (place, within, sym is), ap (λ (x : Flight). x.id) is ∙ (sent f).0, ap (λ (x : Flight). x.provider) is ∙ (sent f).1, entries)
+noted_at (Err e) provider id place reply c d within sent holds = tt

@@ -32,3 +32,8 @@ is_call_itself q = rw (op_itself q.op, bytes_itself q.address, option_itself q.d
 pub about_call : (q : Asked) (e : LogEntryView) → is_about q e ≡ true → is_call q (request_in e) ≡ true
 about_call q (begun r) h = subst (λ x. is_call q x ≡ true) (sym ((same_is_equality r q).0 h)) (is_call_itself q)
 about_call q (replied r a) h = subst (λ x. is_call q x ≡ true) (sym ((same_is_equality r q).0 h)) (is_call_itself q)
+
+-- an entry is about the request in it
+pub about_itself : (q : Asked) (e : LogEntryView) → request_in e ≡ q → is_about q e ≡ true
+about_itself q (begun r) h = (same_is_equality r q).1 h
+about_itself q (replied r a) h = (same_is_equality r q).1 h

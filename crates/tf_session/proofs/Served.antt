@@ -1,8 +1,8 @@
 -- Calls that are made.
-use Rattle.std.proofs.Common.{◌≡◌, ◌++◌, ◌⊎◌, ◌||◌, ◌∷◌, [], Bool, List, Ok, Err, Result, false, inl, inr, map, refl, subst, sym, true}
+use Rattle.std.proofs.Common.{◌≡◌, ◌++◌, ◌⊎◌, ◌||◌, ◌∷◌, [], Bool, List, Ok, Err, Result, arith, false, inl, inr, map, refl, subst, sym, true}
 use Rattle.std.proofs.lemmas.Bool.{cases_Bool, or_cases}
 use Rattle.std.proofs.lemmas.List.{map-append}
-use Rattle.std.proofs.lemmas.List.Elements.{All-push, All-weaker, Contains-append_left, Contains-append_right, Contains-push}
+use Rattle.std.proofs.lemmas.List.Elements.{All-push, All-weaker, Contains-append_cases, Contains-append_left, Contains-append_right, Contains-push}
 use Rattle.std.proofs.lemmas.List.Folds.{list_any-append, list_any_at}
 use Rattle.std.specs.List.{All, Contains, list_any}
 use Rattle.std.specs.Prelude.{MatchResult, OnOk}
@@ -15,9 +15,10 @@ use Rattle.tf_provider_protocol.specs.declared.request.Reply.{Reply}
 use Rattle.tf_provider_protocol.specs.declared.request.Request.{Request}
 use Rattle.tf_provider_remote.specs.Flights.{has_call, is_call}
 use Rattle.tf_provider_remote.specs.declared.flights.Flight.{Flight}
-use Rattle.tf_session.proofs.Kept.{or_left, or_right}
-use Rattle.tf_session.proofs.Same.{about_call, is_call_itself}
+use Rattle.tf_session.proofs.Kept.{first_or_later, or_left, or_right}
+use Rattle.tf_session.proofs.Same.{about_call, about_itself, is_call_itself}
 use Rattle.tf_session.specs.Calls.{Continues, IsMade, IsTakenUp, has_begun, made, request_in, taken_up}
+use Rattle.tf_session.specs.Laws.{MadeCallsHaveBegun}
 use Rattle.tf_session.specs.declared.calls.Calls.{Calls}
 use Rattle.tf_session.specs.declared.session.Session.{Session}
 
@@ -130,3 +131,23 @@ taken_waits C (Ok v) f c fs waits =
     let last : Contains (map (λ f. asked f.request) c.waiting.flights.items) (asked f.request) = rw (waits, map-append (λ (f : Flight). asked f.request) fs (f ∷ [])) (Contains-push (map (λ f. asked f.request) fs) (asked f.request)) in
     inr (taken_there (asked f.request) c (Contains-append_left (map (λ f. asked f.request) c.waiting.flights.items) (made c) (asked f.request) last))
 taken_waits C (Err e) f c fs waits = tt
+
+-- an entry of a list is about a request that is in one of them
+about_there : (q : Asked) (es : List LogEntry) → Contains (map (λ e. request_in (log_entry_of e)) es) q → list_any (is_about q) (map log_entry_of es) ≡ true
+about_there q [] h = (let none = h.1 in absurd (omega (arith, none)))
+about_there q (e ∷ es) h =
+    elim (first_or_later (request_in (log_entry_of e)) (map (λ e. request_in (log_entry_of e)) es) q h) [
+      | inl later ↦ or_right (is_about q (log_entry_of e)) _ (about_there q es later)
+      | inr first ↦ or_left (is_about q (log_entry_of e)) _ (about_itself q (log_entry_of e) first)
+    ]
+
+-- a call that was made has begun
+pub made_has_begun : MadeCallsHaveBegun
+made_has_begun q c h =
+    let waiting = has_call q c.waiting.flights.items in
+    let flights = map (λ f. asked f.request) c.flights.flights.items in
+    let about = list_any (is_about q) (map log_entry_of c.entries.items) in
+    elim (Contains-append_cases flights (map (λ e. request_in (log_entry_of e)) c.entries.items) q h) [
+      | inl flies ↦ or_left (waiting || has_call q c.flights.flights.items) about (or_right waiting (has_call q c.flights.flights.items) (any_of (is_call q) flights q flies (is_call_itself q)))
+      | inr ended ↦ or_right (waiting || has_call q c.flights.flights.items) about (about_there q c.entries.items ended)
+    ]

@@ -1,10 +1,13 @@
 -- The calls of an apply with providers outside the program.
 use Rattle.std.specs.List.{Contains, list_all, list_any}
-use Rattle.std.specs.Prelude.{◌≡◌, ◌||◌, ◌++◌, ◌⊎◌, Bool, List, length, map, take, true}
+use Rattle.std.specs.Prelude.{◌≡◌, ◌||◌, ◌++◌, ◌∷◌, ◌⊎◌, [], Bool, ℕ, List, length, map, take, true}
 use Rattle.tf_provider_log.specs.LogEntry.{LogEntryView, begun, log_entry_of, replied}
 use Rattle.tf_provider_log.specs.Replayed.{is_about}
+use Rattle.tf_provider_log.specs.declared.entry.LogEntry.TheVariants.{Answered}
 use Rattle.tf_provider_protocol.specs.Meaning.{Asked, asked}
+use Rattle.tf_provider_protocol.specs.declared.request.Reply.{Reply}
 use Rattle.tf_provider_remote.specs.Flights.{has_call, is_call}
+use Rattle.tf_provider_remote.specs.declared.flights.Flight.{Flight}
 use Rattle.tf_session.specs.declared.calls.Calls.{Calls}
 use Rattle.tf_session.specs.declared.session.Session.{Session}
 
@@ -33,6 +36,12 @@ taken_up c = map (λ f. asked f.request) c.waiting.flights.items ++ made c
 pub record AreKept (old new : Calls) : Type 0 where
   pub made : (q : Asked) → Contains (made old) q → Contains (made new) q
   pub ended : take (length old.entries.items) new.entries.items ≡ old.entries.items
+
+-- a provider's reply is noted as the answer to the request in flight that has its number and was sent to it, or nothing is noted
+abbrev pub IsNoted : ℕ → ℕ → Reply → Calls → Calls → Type 0
+IsNoted provider id reply old new =
+    (new.entries.items ≡ old.entries.items)
+    ⊎ ((f : Flight) × Contains old.flights.flights.items f × (f.id ≡ id) × (f.provider ≡ provider) × (new.entries.items ≡ old.entries.items ++ Answered f.request reply ∷ []))
 
 -- A session goes on with the same types of providers. It forgets no call, and a request that waits is sent unless nothing more is begun.
 pub record Continues (old new : Session) : Type 0 where

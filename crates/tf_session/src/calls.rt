@@ -1,8 +1,9 @@
 //! The calls of a session: those that wait, those in flight, and those that ended.
 
-ghost use Rattle.std.specs.Prelude.{◌≡◌, ◌+◌, ◌<◌, ◌≤◌, ◌++◌, ◌∷◌, [], IsOk, MatchResult, OnOk, false, length, map, vec_capacity};
+ghost use Rattle.std.specs.Prelude.{◌≡◌, ◌+◌, ◌<◌, ◌≤◌, ◌++◌, ◌∷◌, [], IsOk, MatchResult, OnOk, false, length, map, slice_index_or, vec_capacity};
 ghost use Rattle.tf_provider_log.specs.declared.entry.LogEntry.TheVariants.{Answered};
 ghost use Rattle.tf_provider_protocol.specs.Meaning.{asked};
+ghost use Rattle.tf_provider_remote.specs.declared.flights.Flight.{Flight};
 ghost use Rattle.tf_session.specs.Calls.{AreKept, has_begun, have_begun};
 
 use std::alloc::{AllocError, Global};
@@ -103,6 +104,7 @@ impl Calls {
         requires { place < length self.old.flights.flights.items }
         ensures waiting { self.new.waiting ≡ self.old.waiting }
         ensures kept { AreKept self.old self.new }
+        ensures noted { OnOk result ((f : Flight) × (f ≡ slice_index_or self.old.flights.flights.items place f) × (self.new.entries.items ≡ self.old.entries.items ++ Answered f.request reply ∷ [])) }
     {
         self.entries.reserve(1)?;
         let flight = self.flights.take(place);

@@ -3,6 +3,7 @@
 #![tactic(auto)]
 
 mod calls;
+mod laws;
 mod notes;
 mod own;
 mod pipes;
@@ -13,6 +14,7 @@ mod results;
 mod session;
 mod watched;
 
+pub use laws::made_calls_have_begun;
 pub use notes::{Noted, Notes};
 pub use pipes::{Pipe, check_pipes, open_pipes};
 pub use remotes::read_types;

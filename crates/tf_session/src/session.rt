@@ -3,7 +3,7 @@
 ghost use Rattle.std.specs.Prelude.{◌≡◌, ◌&&◌, ◌||◌, ◌⊎◌, [], All, IfOk, OnOk, is_none, map, true};
 ghost use Rattle.tf_provider_protocol.specs.Meaning.{asked};
 ghost use Rattle.tf_provider_remote.specs.Flights.{next_provider};
-ghost use Rattle.tf_session.specs.Calls.{Continues, IsMade, IsTakenUp, have_begun};
+ghost use Rattle.tf_session.specs.Calls.{Continues, IsMade, IsNoted, IsTakenUp, have_begun};
 
 use crate::calls::Calls;
 use crate::pipes::{Loss, Pipe};
@@ -398,7 +398,8 @@ impl Session {
         response: Response,
         err: &mut E,
     ) -> Result<(), AllocError>
-        ensures { OnOk result (Continues self.old self.new) }
+        ensures continues { OnOk result (Continues self.old self.new) }
+        ensures noted { OnOk result (IsNoted provider response.id response.reply self.old.calls self.new.calls) }
     {
         if self.lost.get(provider) == Some(&true) {
             return Ok(());
