@@ -100,7 +100,7 @@ kept_same c d f e = record {
 pub kept_sent : (c d : Calls) (more : List Flight) → d.flights.flights.items ≡ c.flights.flights.items ++ more → d.entries.items ≡ c.entries.items → AreKept c d
 kept_sent c d more f e = record {
   made = λ q h. rw (f, e) (more_left (λ (f : Flight). asked f.request) c.flights.flights.items more (map (λ e. request_in (log_entry_of e)) c.entries.items) q h);
-  ended = (kept_same c record {waiting = d.waiting; flights = c.flights; entries = d.entries} refl e).ended;
+  ended = (kept_same c record { waiting = d.waiting; flights = c.flights; entries = d.entries } refl e).ended;
 }
 
 -- calls are kept if one more has ended
@@ -197,7 +197,7 @@ continues_then a b c one other = record {
   types = other.types ∙ one.types;
   calls = kept_then a.calls b.calls c.calls one.calls other.calls;
   closed = λ e. other.closed (one.closed e);
-  taken_up = λ q h. elim (one.taken_up q h) [ | inl e ↦ inl (other.closed e) | inr there ↦ other.taken_up q there ];
+  taken_up = λ q h. elim (one.taken_up q h) [ inl e ↦ inl (other.closed e) | inr there ↦ other.taken_up q there ];
 }
 
 -- a session that continues, and then continues for as long as there is memory

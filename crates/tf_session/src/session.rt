@@ -13,10 +13,8 @@ use std::fs::File;
 use std::io::Write;
 use tf_cli_files::{ApplyEvents, LogSink, ProgramInput};
 use tf_provider::{Provider, Reply, Request, first_provider};
-use tf_provider_log::{Announced, LogEntry, OpenLog, is_begun};
-use tf_provider_remote::{
-    Flight, Flights, RemoteTypes, Response, Responses, Unsent, request_line,
-};
+use tf_provider_log::{Announced, LogEntry, OpenLog};
+use tf_provider_remote::{Flight, Flights, RemoteTypes, Response, Responses, Unsent, request_line};
 
 /// The log of an apply.
 pub type ApplyLog = OpenLog<LogSink<File>>;
@@ -269,7 +267,9 @@ impl Session {
     /// Returns whether few enough requests are in flight or wait for a line of this size.
     fn has_room(&self, size: usize) -> bool {
         let Calls {
-            waiting, flights, ..
+            waiting,
+            flights,
+            ..
         } = &self.calls;
         flights.has_room(waiting, self.most, size)
     }
