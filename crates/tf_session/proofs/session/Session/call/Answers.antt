@@ -12,4 +12,4 @@ pub returns-clause-continues : goal.returns-clause-continues
 returns-clause-continues g c = continues_by c.answer.result _ _ refl (λ e. or_left _ _ e) c.answer.ensures.others.0 c.answer.ensures.kept
 
 pub returns-clause-taken_up : goal.returns-clause-taken_up
-returns-clause-taken_up g c = taken_answered _ _ c.answer.result c.args.request c.match-get.reply c.answer.new.self c.args.self.now.calls.entries.items c.answer.ensures.answered
+returns-clause-taken_up g c = taken_answered _ _ c.answer.result c.args.request c.match-first_provider.reply c.answer.new.self c.args.self.now.calls.entries.items c.answer.ensures.answered
