@@ -1,4 +1,4 @@
-mod Kept
+pub mod Kept
 mod Same
 mod Served
 mod Together
