@@ -1,4 +1,3 @@
-pub mod Asks
 pub mod Fault
 pub mod Shown
 pub use Rattle.tf_plan_data.specs.Action
@@ -11,3 +10,4 @@ pub use Rattle.tf_plan_planner.specs.Ordered
 pub use Rattle.tf_plan_planner.specs.Refused
 pub use Rattle.tf_walk_action.specs.Asked
 pub use Rattle.tf_walk_action.specs.Objects
+pub use Rattle.tf_walk_requests.specs.Asks

@@ -7,14 +7,11 @@
 #![tactic(auto)]
 
 mod fault;
-mod instances;
 mod requesting;
-mod results;
 mod showing;
 
 pub use fault::RequestFault;
 pub use requesting::request;
-pub use results::Results;
 pub use showing::text;
 pub use tf_cli_inputs::{Configuration as Config, Vars};
 pub use tf_config_address::{InstanceKey, ResourceAddr};
@@ -23,3 +20,4 @@ pub use tf_plan_data::{Action, Plan as PlanParts, Planned as Plan, Step, address
 pub use tf_plan_order::Order;
 pub use tf_plan_planner::{MAX_ACTIONS, Refused, Unplanned, plan};
 pub use tf_provider_protocol::{Op, Provider, Request};
+pub use tf_walk_requests::Results;

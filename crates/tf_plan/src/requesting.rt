@@ -1,22 +1,19 @@
 //! The request of an action.
 
 ghost use Rattle.std.specs.Prelude.{◌≡◌, ◌<◌, Err, IfErr, IfOk, Ok, length, map};
-ghost use Rattle.tf_graph.specs.Digraph.{predecessors_of};
-ghost use Rattle.tf_plan.specs.Asks.{IsAskedOf, results_with};
 ghost use Rattle.tf_plan.specs.Fault.{TellsFault};
-ghost use Rattle.tf_plan_data.specs.Words.{AreServed, FitsTogether, action_of, config_of, names_in, names_of, plan_of, seen_by, state_of};
+ghost use Rattle.tf_plan_data.specs.Words.{AreServed, FitsTogether, action_of, plan_of};
 ghost use Rattle.tf_provider_protocol.specs.Meaning.{asked};
 ghost use Rattle.tf_walk_action.specs.AskedBy.{asked_by};
-ghost use Rattle.tf_walk_action.specs.Outcome.{objects_by, objects_seen};
+ghost use Rattle.tf_walk_requests.specs.Asks.{IsAskedOf};
 
 use crate::fault::{RequestFault, request_fault};
-use crate::instances::InstanceObjects;
-use crate::results::Results;
 use std::alloc::{AllocError, Global};
 use tf_config_names::Declarations;
 use tf_plan_data::{Plan, Planned};
 use tf_provider_protocol::{Provider, Request};
-use tf_walk_action::{Faulted, PreparedCall, ask_provider};
+use tf_walk_action::{Faulted, PreparedCall};
+use tf_walk_requests::{Results, request_of};
 
 /// Builds the request of the action with a number, as an apply does in which the earlier actions made the objects of
 /// `results`. An instance that a create or an update directly before the action is of has that one's object; these include each
@@ -66,58 +63,6 @@ fn prepared_call<R: Results>(
     ensures { IfOk result (λ made. IsAskedOf (map meaning providers.now) (plan_of plan.now) action (R.objects results.now) (asked_by made)) }
 {
     let names = Declarations::new(alloc, &plan.config, &plan.dependence)?;
-    request_with(alloc, plan, &names, action, providers, results)
-}
-
-/// Builds the request of an action of a plan whose configuration has these names, or its fault.
-fn request_with<R: Results>(
-    alloc: Global,
-    plan: &Plan,
-    names: &Declarations<'_>,
-    action: usize,
-    providers: &[Box<dyn Provider + Sync>],
-    results: &R,
-) -> Result<Result<PreparedCall, Faulted>, AllocError>
-    requires fits { FitsTogether plan.now }
-    requires names { names_in names.now ≡ names_of (config_of plan.now.config) }
-    requires inside { action < length plan.now.actions.items }
-    requires served { AreServed (map meaning providers.now) (map action_of plan.now.actions.items) }
-    ensures { IfOk result (λ made. IsAskedOf (map meaning providers.now) (plan_of plan.now) action (R.objects results.now) (asked_by made)) }
-{
-    let actions = plan.actions.as_slice();
-    let objects = objects_before(plan, names, action, results);
     let mut kept = Vec::new(alloc);
-    match ask_provider(
-        alloc,
-        plan,
-        names,
-        providers,
-        &actions[action],
-        &objects,
-        &mut kept,
-    ) {
-        Ok(made) => Ok(made),
-        Err(_) => Err(AllocError),
-    }
-}
-
-/// Returns the objects of instances after the actions directly before an action.
-fn objects_before<'a, R: Results>(
-    plan: &'a Plan,
-    names: &'a Declarations<'a>,
-    action: usize,
-    results: &'a R,
-) -> InstanceObjects<'a, R>
-    requires names { names_in names.now ≡ names_of (config_of plan.now.config) }
-    requires within { action < plan.now.order.nodes }
-    ensures { objects_seen (names_in result.names.now) (state_of result.prior.now) (map action_of result.actions.now) (seen_by (results_with (R.objects result.results.now)) result.before.now)
-        ≡ objects_by (plan_of plan.now) (seen_by (results_with (R.objects results.now)) (predecessors_of plan.now.order action)) }
-{
-    InstanceObjects {
-        names,
-        prior: &plan.prior,
-        actions: plan.actions.as_slice(),
-        before: plan.order.graph().predecessors(action),
-        results,
-    }
+    request_of(alloc, plan, &names, action, providers, results, &mut kept)
 }

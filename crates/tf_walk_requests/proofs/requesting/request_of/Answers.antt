@@ -1,19 +1,22 @@
-use Rattle.std.proofs.Common.{Ok, map, ap}
+use Rattle.std.proofs.Common.{ℕ, Ok, ap, map, subst, sym}
+use Rattle.tf_config_address.specs.ObjectId.{InstanceKeyView}
+use Rattle.tf_value_data.specs.Tree.{Tree}
+use Rattle.tf_walk_action.specs.SoFar.{ResolvedSoFar}
 use Rattle.std.specs.Prelude.{IsTrue}
 use Rattle.tf_config_data.specs.Config.{config_of}
 use Rattle.tf_config_data.specs.Names.{names_of}
 use Rattle.tf_config_names.specs.Table.{names_in}
 use Rattle.tf_graph.specs.Digraph.{predecessors_of}
 use Rattle.tf_graph.specs.Solutions.{seen_by}
-use Rattle.tf_plan.proofs.Asking.{asked_here, empty_so_far}
-use Rattle.tf_plan.specs.Asks.{results_with}
+use Rattle.tf_walk_requests.proofs.Asking.{asked_here}
+use Rattle.tf_walk_requests.specs.Asks.{results_with}
 use Rattle.tf_plan_data.specs.Action.{action_of}
 use Rattle.tf_plan_data.specs.Fits.{IsDeclared}
 use Rattle.tf_plan_data.specs.Plan.{plan_of}
 use Rattle.tf_plan_data.specs.Served.{IsServedBy}
 use Rattle.tf_provider_protocol.specs.Verdict.{asks_fully}
 use Rattle.tf_walk_action.proofs.Calling.{read_at, seen_objects, slice_get-map}
-use Rattle.tf_plan.proofs.requesting.request_with.Goals as goal
+use Rattle.tf_walk_requests.proofs.requesting.request_of.Goals as goal
 
 pub ask_provider-requires-clause-declared : goal.ask_provider-requires-clause-declared
 ask_provider-requires-clause-declared g c =
@@ -26,10 +29,16 @@ ask_provider-requires-clause-served g c =
     read_at action_of (IsServedBy ms) c.args.plan.now.actions.items c.args.action c.index-actions-action.result c.requires.served c.requires.inside (rw c.as_slice-actions.ensures.value at c.index-actions-action.is)
 
 pub ask_provider-requires-clause-so_far : goal.ask_provider-requires-clause-so_far
-ask_provider-requires-clause-so_far g c = empty_so_far (plan_of c.args.plan.now) _ c.new-kept.result.items c.new-kept.ensures.items
+ask_provider-requires-clause-so_far g c = subst (λ (o : ℕ → InstanceKeyView → Tree). ResolvedSoFar (plan_of c.args.plan.now) o c.args.kept.now.items) (sym c.objects_before-objects.ensures) c.requires.so_far
 
-pub returns-in-Ok : goal.returns-in-Ok
-returns-in-Ok g c =
+pub returns-in-Ok-clause-so_far : goal.returns-in-Ok-clause-so_far
+returns-in-Ok-clause-so_far g c = subst (λ (o : ℕ → InstanceKeyView → Tree). ResolvedSoFar (plan_of c.args.plan.now) o c.ask_provider.new.kept.items) c.objects_before-objects.ensures c.ask_provider.ensures.so_far
+
+pub returns-in-Err-clause-so_far : goal.returns-in-Err-clause-so_far
+returns-in-Err-clause-so_far g c = subst (λ (o : ℕ → InstanceKeyView → Tree). ResolvedSoFar (plan_of c.args.plan.now) o c.ask_provider.new.kept.items) c.objects_before-objects.ensures c.ask_provider.ensures.so_far
+
+pub returns-in-Ok-clause-asked : goal.returns-in-Ok-clause-asked
+returns-in-Ok-clause-asked g c =
     let ms = map (λ b. (goal.Provider-dyn g (b.vtable, b.value)).meaning b.value) c.args.providers.now in
     let plan = plan_of c.args.plan.now in
     let n = c.args.action in

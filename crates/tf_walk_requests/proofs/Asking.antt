@@ -11,7 +11,7 @@ use Rattle.tf_expand_keys.specs.declared.resolved.Resolved.{Resolved}
 use Rattle.tf_graph.proofs.Edges.{contains_head, contains_tail}
 use Rattle.tf_graph.specs.Digraph.{predecessors_of}
 use Rattle.tf_graph.specs.Solutions.{seen_by}
-use Rattle.tf_plan.specs.Asks.{HaveObjects, applies, IsAskedOf, results_with}
+use Rattle.tf_walk_requests.specs.Asks.{HaveObjects, applies, IsAskedOf, results_with}
 use Rattle.tf_plan_data.specs.Action.{ActionView}
 use Rattle.tf_plan_data.specs.Fits.{is_apply}
 use Rattle.tf_plan_data.specs.Plan.{PlanView, plan_names}

@@ -1,12 +1,12 @@
 use Rattle.std.proofs.Common.{◌≡◌, ◌∙◌, IfOk, map, sym, subst}
 use Rattle.tf_config_address.specs.ObjectId.{instance_key_of}
 use Rattle.tf_config_names.specs.Table.{names_in}
-use Rattle.tf_plan.specs.Asks.{results_with}
+use Rattle.tf_walk_requests.specs.Asks.{results_with}
 use Rattle.tf_plan_data.specs.Action.{action_of}
 use Rattle.tf_state_data.specs.State.{state_of}
 use Rattle.tf_value_data.specs.Tree.{Tree, tree_of}
 use Rattle.tf_walk_action.proofs.Lookup.{object-here, object-later, object-none}
-use Rattle.tf_plan.proofs.instances.InstanceObjectsInstanceResults.object.Goals as goal
+use Rattle.tf_walk_requests.proofs.instances.InstanceObjectsInstanceResults.object.Goals as goal
 
 pub returns-then-applies_to : goal.returns-then-applies_to
 returns-then-applies_to g c =

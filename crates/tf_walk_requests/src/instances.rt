@@ -1,7 +1,7 @@
 //! The objects of instances, by the objects of actions.
 
 ghost use Rattle.std.specs.Prelude.{map};
-ghost use Rattle.tf_plan.specs.Asks.{results_with};
+ghost use Rattle.tf_walk_requests.specs.Asks.{results_with};
 ghost use Rattle.tf_plan_data.specs.Words.{action_of, names_in, seen_by, state_of};
 ghost use Rattle.tf_walk_action.specs.Objects.{objects_seen};
 

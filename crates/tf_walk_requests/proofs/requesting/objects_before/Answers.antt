@@ -2,11 +2,11 @@ use Rattle.std.proofs.Common.{map, ap}
 use Rattle.tf_config_names.specs.Table.{names_in}
 use Rattle.tf_graph.specs.Digraph.{predecessors_of}
 use Rattle.tf_graph.specs.Solutions.{seen_by}
-use Rattle.tf_plan.specs.Asks.{results_with}
+use Rattle.tf_walk_requests.specs.Asks.{results_with}
 use Rattle.tf_plan_data.specs.Action.{action_of}
 use Rattle.tf_plan_data.specs.Plan.{plan_of}
 use Rattle.tf_walk_action.proofs.Calling.{seen_objects}
-use Rattle.tf_plan.proofs.requesting.objects_before.Goals as goal
+use Rattle.tf_walk_requests.proofs.requesting.objects_before.Goals as goal
 
 pub returns : goal.returns
 returns g c =

@@ -1,0 +1,4 @@
+pub mod Asks
+pub mod Memo
+pub mod Progress
+pub mod Stages
