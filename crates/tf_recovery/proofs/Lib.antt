@@ -1,3 +1,3 @@
 mod Outcomes
 mod Replaying
-mod Serving
+mod Turns

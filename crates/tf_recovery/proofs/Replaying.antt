@@ -12,9 +12,3 @@ pub by_three : {B : Type 0} (f : B → Meaning) (bs : List B) (P : List Meaning 
     → bs ≡ b ∷ c ∷ d ∷ [] → f b ≡ first → f c ≡ second → f d ≡ third → P ms
 by_three f bs P first second third ms b c d holds same items is_first is_second is_third =
     subst P (three_meanings f bs first second third ms b c d same items is_first is_second is_third) holds
-
--- what holds of these meanings holds of the meanings of three providers, if they are the same
-pub for_three : {B : Type 0} (f : B → Meaning) (bs : List B) (P : List Meaning → Type 0) (first second third : Meaning) (ms : List Meaning) (b c d : B) → P ms → first ∷ second ∷ third ∷ [] ≡ ms
-    → bs ≡ b ∷ c ∷ d ∷ [] → f b ≡ first → f c ≡ second → f d ≡ third → P (map f bs)
-for_three f bs P first second third ms b c d holds same items is_first is_second is_third =
-    subst P (sym (three_meanings f bs first second third ms b c d same items is_first is_second is_third)) holds

@@ -1,15 +1,15 @@
 //! An apply with providers outside the program, from the first call to the state.
 
 ghost use Rattle.std.specs.Prelude.{◌≡◌, IfOk, None, OnOk, map};
+ghost use Rattle.tf_plan_data.specs.Words.{AreServed, plan_of};
 ghost use Rattle.tf_provider_log.specs.LogEntry.{log_entry_of};
-ghost use Rattle.tf_cli.specs.Applies.{MayStart};
 ghost use Rattle.tf_provider_remote.specs.Flights.{next_provider};
+ghost use Rattle.tf_recovery.specs.Calls.{AreDue, IsCarriedOut};
 ghost use Rattle.tf_recovery.specs.Outcome.{IsOutcome};
-ghost use Rattle.tf_session.specs.Calls.{Continues};
-ghost use Rattle.tf_session.specs.Outside.{outside_meanings, outside_replayed};
-ghost use Rattle.tf_walk_action.specs.Words.{plan_of};
+ghost use Rattle.tf_session.specs.Calls.{AreKept};
+ghost use Rattle.tf_session.specs.Outside.{outside_replayed};
 
-use crate::walking::{Walk, apply_over_log, requests_over_log};
+use crate::walking::apply_over_log;
 use std::alloc::AllocError;
 use std::fs::File;
 use std::io::Write;
@@ -20,70 +20,40 @@ use tf_cli_files::{Place, ProgramInput, print_call_in_flight};
 use tf_cli_program::{ask_for_results, end_apply};
 use tf_plan_data::Planned;
 use tf_provider::Provider;
-use tf_provider_protocol::Request;
 use tf_provider_remote::RemoteTypes;
 use tf_session::{ApplyLog, Session};
+use tf_walk_requests::PlanProgress;
 
-/// Applies what was given, whose plan this is: makes the calls that the log doesn't answer, until it answers all that are asked for, or
-/// nothing more is to be begun and no reply can come any more. Forgets no call, so none is made twice.
+/// Applies what was given, whose plan this is: makes the calls of its actions, each once the actions before it ended well, until no
+/// call is left to make, or nothing more is to be begun, and no reply can come any more. Makes no other call, and forgets none, so
+/// none is made twice.
 pub(crate) fn carried_out<T: Wait, E: Write>(
     rt: &HostRuntime,
     threads: &T,
     given: &ProgramInput,
-    types: &RemoteTypes,
     planned: &Planned,
     log: &ApplyLog,
     providers: &[Box<dyn Provider + Sync>],
     session: &mut Session,
     err: &mut E,
 ) -> Result<Result<Applied, Refused>, AllocError>
-    requires { MayStart (outside_meanings (⟦<RemoteTypes as Provider>⟧.meaning types.now)) (plan_of planned.now) }
+    requires { AreServed (map meaning providers.now) (plan_of planned.now).actions }
     ensures outcome { IfOk result (λ answer. IsOutcome (outside_replayed (⟦<RemoteTypes as Provider>⟧.meaning session.new.types) (map log_entry_of session.new.calls.entries.items)) given.now answer) }
-    ensures continues { OnOk result (Continues session.old session.new) }
+    ensures kept { OnOk result (AreKept session.old.calls session.new.calls) }
+    ensures due { OnOk result (AreDue (map meaning providers.now) (plan_of planned.now) session.old session.new) }
+    ensures carried_out { OnOk result (IsCarriedOut (map meaning providers.now) (plan_of planned.now) session.new) }
     ensures no_reply { OnOk result (next_provider session.new.lost.items session.new.calls.flights.flights.items ≡ None) }
 {
+    let alloc = rt.alloc();
+    let mut progress = PlanProgress::new(alloc, planned.plan.actions.len())?;
     for _ in threads.forever() {
-        let unanswered = match calls_to_make(rt, types, planned, session)? {
-            Some(unanswered) => unanswered,
-            None => {
-                let Walk { answer, unanswered } = applied(rt, given, session)?;
-                if session.is_finished(&unanswered) {
-                    return Ok(answer);
-                }
-                drop(state_to_write(answer));
-                unanswered
-            }
-        };
-        session.serve(rt, log, providers, given, unanswered, err)?;
+        let requests = progress.next_requests(alloc, planned, providers, session.entries())?;
+        if requests.is_empty() && !session.awaits_reply() {
+            return apply_over_log(rt, given, session.types(), session.entries());
+        }
+        session.serve(rt, log, providers, given, requests, err)?;
     }
     unreachable!()
-}
-
-/// Applies what was given, by providers that answer what the log of a session says so far.
-fn applied(rt: &HostRuntime, given: &ProgramInput, session: &Session) -> Result<Walk, AllocError>
-    ensures { IfOk result (λ walk. IsOutcome (outside_replayed (⟦<RemoteTypes as Provider>⟧.meaning session.now.types) (map log_entry_of session.now.calls.entries.items)) given.now walk.answer) }
-{
-    apply_over_log(rt, given, session.types(), session.entries())
-}
-
-/// Returns the calls that the log doesn't answer, or `None` if no call is left: each action's call has ended, or nothing is to be
-/// begun.
-fn calls_to_make(
-    rt: &HostRuntime,
-    types: &RemoteTypes,
-    planned: &Planned,
-    session: &Session,
-) -> Result<Option<Vec<Request>>, AllocError>
-    requires { MayStart (outside_meanings (⟦<RemoteTypes as Provider>⟧.meaning types.now)) (plan_of planned.now) }
-{
-    if session.entries().len() >= planned.plan.actions.len() {
-        return Ok(None);
-    }
-    let unanswered = requests_over_log(rt, planned, types, session.entries())?;
-    if session.is_finished(&unanswered) {
-        return Ok(None);
-    }
-    Ok(Some(unanswered))
 }
 
 /// Ends an apply: prints what follows the plan's text, writes the state if it changed, and empties the log. If requests are still in

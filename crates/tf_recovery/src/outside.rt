@@ -1,8 +1,7 @@
 //! The work of `apply` with providers outside the program, after a recovery.
 
-ghost use Rattle.std.specs.Prelude.{◌≡◌, map};
+ghost use Rattle.std.specs.Prelude.{map};
 ghost use Rattle.tf_cli.specs.Applies.{MayStart};
-ghost use Rattle.tf_session.specs.Outside.{outside_meanings};
 ghost use Rattle.tf_walk_action.specs.Words.{plan_of};
 
 use crate::carrying::{carried_out, finish};
@@ -79,9 +78,7 @@ fn carry_out_approved<T: Wait, O: Write, E: Write>(
     providers: &[Box<dyn Provider + Sync>],
     out: &mut O,
     err: &mut E,
-) -> io::Result<ExitCode>
-    requires { map meaning providers.now ≡ outside_meanings (⟦<RemoteTypes as Provider>⟧.meaning types.now) }
-{
+) -> io::Result<ExitCode> {
     match approved_plan(rt, given, providers, out, err) {
         Ok(PrintedPlan { planned, printed }) => carry_out_outside(
             rt, threads, types, place, file, log, given, providers, &planned, printed, out, err,
@@ -105,7 +102,7 @@ fn carry_out_outside<T: Wait, O: Write, E: Write>(
     out: &mut O,
     err: &mut E,
 ) -> io::Result<ExitCode>
-    requires { MayStart (outside_meanings (⟦<RemoteTypes as Provider>⟧.meaning types.now)) (plan_of planned.now) }
+    requires { MayStart (map meaning providers.now) (plan_of planned.now) }
 {
     let folders = if planned.plan.actions.is_empty() {
         &[]
@@ -126,7 +123,6 @@ fn carry_out_outside<T: Wait, O: Write, E: Write>(
         rt,
         threads,
         given,
-        types,
         planned,
         log,
         providers,

@@ -15,7 +15,8 @@ use Rattle.tf_provider_protocol.specs.Meaning.{Asked, asked}
 use Rattle.tf_provider_protocol.specs.declared.request.Reply.{Reply}
 use Rattle.tf_provider_remote.specs.declared.flights.Flight.{Flight}
 use Rattle.tf_provider_remote.specs.declared.flights.Flights.{Flights}
-use Rattle.tf_session.specs.Calls.{AreKept, Continues, IsNoted, made, request_in, taken_up}
+use Rattle.tf_session.proofs.Only.{only_more, only_same, only_sent, only_then, only_waits}
+use Rattle.tf_session.specs.Calls.{AreKept, Continues, TakesUpOnly, calls_made, calls_taken_up, request_in}
 use Rattle.tf_session.specs.declared.calls.Calls.{Calls}
 use Rattle.tf_session.specs.declared.session.Session.{Session}
 
@@ -136,16 +137,16 @@ only_ok (Ok a) P Q is holds = holds
 only_ok (Err e) P Q is holds = absurd (cc)
 
 -- what is begun stays begun if the same requests wait and the calls are kept
-pub begun_kept : (c d : Calls) → d.waiting.flights.items ≡ c.waiting.flights.items → AreKept c d → (q : Asked) → Contains (taken_up c) q → Contains (taken_up d) q
+pub begun_kept : (c d : Calls) → d.waiting.flights.items ≡ c.waiting.flights.items → AreKept c d → (q : Asked) → Contains (calls_taken_up c) q → Contains (calls_taken_up d) q
 begun_kept c d same kept q h =
-    elim (Contains-append_cases (map (λ f. asked f.request) c.waiting.flights.items) (made c) q h) [
-      | inl there ↦ Contains-append_left (map (λ f. asked f.request) d.waiting.flights.items) (made d) q (rw same there)
-      | inr there ↦ Contains-append_right (map (λ f. asked f.request) d.waiting.flights.items) (made d) q (kept.made q there)
+    elim (Contains-append_cases (map (λ f. asked f.request) c.waiting.flights.items) (calls_made c) q h) [
+      | inl there ↦ Contains-append_left (map (λ f. asked f.request) d.waiting.flights.items) (calls_made d) q (rw same there)
+      | inr there ↦ Contains-append_right (map (λ f. asked f.request) d.waiting.flights.items) (calls_made d) q (kept.made q there)
     ]
 
 -- what is begun stays begun if one request more waits
-pub begun_waits : (c d : Calls) (f : Flight) → d.waiting.flights.items ≡ c.waiting.flights.items ++ f ∷ [] → d.flights ≡ c.flights → d.entries ≡ c.entries → (q : Asked) → Contains (taken_up c) q → Contains (taken_up d) q
-begun_waits c d f waits flights entries q h = rw (waits, flights, entries) (more_left (λ (f : Flight). asked f.request) c.waiting.flights.items (f ∷ []) (made c) q h)
+pub begun_waits : (c d : Calls) (f : Flight) → d.waiting.flights.items ≡ c.waiting.flights.items ++ f ∷ [] → d.flights ≡ c.flights → d.entries ≡ c.entries → (q : Asked) → Contains (calls_taken_up c) q → Contains (calls_taken_up d) q
+begun_waits c d f waits flights entries q h = rw (waits, flights, entries) (more_left (λ (f : Flight). asked f.request) c.waiting.flights.items (f ∷ []) (calls_made c) q h)
 
 -- requests that waited are in flight, if all of them are sent
 all_sent : (was : Bool) (count : ℕ) (ws fs : List Flight) (es : List Asked) (q : Asked) → Contains (map (λ f. asked f.request) ws ++ (map (λ f. asked f.request) fs ++ es)) q
@@ -158,58 +159,71 @@ all_sent was count ws fs es q h =
 
 -- the calls of a session after its requests that waited were sent
 pub begun_sent : (c d : Calls) (was : Bool) (count : ℕ) → d.waiting.flights.items ≡ [] → d.flights.flights.items ≡ c.flights.flights.items ++ take count c.waiting.flights.items → d.entries ≡ c.entries
-    → (q : Asked) → Contains (taken_up c) q → ((was || nat_lt count (length c.waiting.flights.items)) ≡ true) ⊎ Contains (taken_up d) q
+    → (q : Asked) → Contains (calls_taken_up c) q → ((was || nat_lt count (length c.waiting.flights.items)) ≡ true) ⊎ Contains (calls_taken_up d) q
 begun_sent c d was count none flights entries q h = rw (none, flights, entries) (all_sent was count c.waiting.flights.items c.flights.flights.items (map (λ e. request_in (log_entry_of e)) c.entries.items) q h)
 
 -- a session continues if it has the same types and calls
-pub continues_same : (a b : Session) → (b.types ≡ a.types) × (b.calls ≡ a.calls) → (a.is_closed ≡ true → b.is_closed ≡ true) → Continues a b
-continues_same a b (types, calls) closed = record {
+pub continues_same : (qs : List Asked) (a b : Session) → (b.types ≡ a.types) × (b.calls ≡ a.calls) → (a.is_closed ≡ true → b.is_closed ≡ true) → Continues qs a b
+continues_same qs a b (types, calls) closed = record {
   types = types;
   calls = kept_same a.calls b.calls (ap (λ (c : Calls). c.flights.flights.items) calls) (ap (λ (c : Calls). c.entries.items) calls);
   closed = closed;
   taken_up = λ q h. inr (rw calls h);
+  only = only_same qs a.calls b.calls (ap (λ (c : Calls). c.waiting.flights.items) calls) (ap (λ (c : Calls). c.flights.flights.items) calls) (ap (λ (c : Calls). c.entries.items) calls);
 }
 
--- a session continues if it has the same types, keeps its calls, and the same requests wait
-pub continues_by : {A E : Type 0} (r : Result A E) (a b : Session) → b.types ≡ a.types → (a.is_closed ≡ true → b.is_closed ≡ true) → b.calls.waiting ≡ a.calls.waiting → AreKept a.calls b.calls → OnOk r (Continues a b)
-continues_by (Ok v) a b types closed waiting calls = record {
+-- a session continues if it has the same types, keeps its calls, takes up no others but these, and the same requests wait
+pub continues_by : {A E : Type 0} (qs : List Asked) (r : Result A E) (a b : Session) → b.types ≡ a.types → (a.is_closed ≡ true → b.is_closed ≡ true) → b.calls.waiting ≡ a.calls.waiting → AreKept a.calls b.calls → TakesUpOnly qs a.calls b.calls
+    → OnOk r (Continues qs a b)
+continues_by qs (Ok v) a b types closed waiting calls only = record {
   types = types;
   calls = calls;
   closed = closed;
   taken_up = λ q h. inr (begun_kept a.calls b.calls (ap (λ (w : Flights). w.flights.items) waiting) calls q h);
+  only = only;
 }
-continues_by (Err e) a b types closed waiting calls = tt
+continues_by qs (Err e) a b types closed waiting calls only = tt
 
 -- a session continues if one request more waits
 pub continues_waits : {A E : Type 0} (r : Result A E) (a b : Session) (f : Flight) → (b.types ≡ a.types) × (b.is_closed ≡ a.is_closed) → (b.calls.flights ≡ a.calls.flights) × (b.calls.entries ≡ a.calls.entries)
-    → OnOk r (b.calls.waiting.flights.items ≡ a.calls.waiting.flights.items ++ f ∷ []) → OnOk r (Continues a b)
+    → OnOk r (b.calls.waiting.flights.items ≡ a.calls.waiting.flights.items ++ f ∷ []) → OnOk r (Continues (asked f.request ∷ []) a b)
 continues_waits (Ok v) a b f (types, closed) (flights, entries) waits = record {
   types = types;
   calls = kept_same a.calls b.calls (ap (λ (w : Flights). w.flights.items) flights) (ap (λ (es : Vec LogEntry Global). es.items) entries);
   closed = λ e. closed ∙ e;
   taken_up = λ q h. inr (begun_waits a.calls b.calls f waits flights entries q h);
+  only = only_waits a.calls b.calls f waits flights entries;
 }
 continues_waits (Err e) a b f same others waits = tt
 
 -- a session that continues twice continues
-pub continues_then : (a b c : Session) → Continues a b → Continues b c → Continues a c
-continues_then a b c one other = record {
+pub continues_then : (qs : List Asked) (a b c : Session) → Continues qs a b → Continues qs b c → Continues qs a c
+continues_then qs a b c one other = record {
   types = other.types ∙ one.types;
   calls = kept_then a.calls b.calls c.calls one.calls other.calls;
   closed = λ e. other.closed (one.closed e);
   taken_up = λ q h. elim (one.taken_up q h) [ inl e ↦ inl (other.closed e) | inr there ↦ other.taken_up q there ];
+  only = only_then qs a.calls b.calls c.calls one.only other.only;
 }
 
+-- a session that takes up no calls but some takes up no calls but these and others
+pub continues_for : (qs rs : List Asked) (a b : Session) → ((q : Asked) → Contains qs q → Contains rs q) → Continues qs a b → Continues rs a b
+continues_for qs rs a b more h = record { types = h.types; calls = h.calls; closed = h.closed; taken_up = h.taken_up; only = only_more qs rs a.calls b.calls more h.only }
+
+-- a session that takes up no calls
+pub continues_with : (qs : List Asked) (a b : Session) → Continues [] a b → Continues qs a b
+continues_with qs a b h = continues_for [] qs a b (λ q there. let none = there.1 in absurd (omega (arith, none))) h
+
 -- a session that continues, and then continues for as long as there is memory
-pub continues_on : {A E : Type 0} (r : Result A E) (a b c : Session) → Continues a b → OnOk r (Continues b c) → OnOk r (Continues a c)
-continues_on (Ok v) a b c one other = continues_then a b c one other
-continues_on (Err e) a b c one other = tt
+pub continues_on : {A E : Type 0} (qs : List Asked) (r : Result A E) (a b c : Session) → Continues [] a b → OnOk r (Continues qs b c) → OnOk r (Continues qs a c)
+continues_on qs (Ok v) a b c one other = continues_then qs a b c (continues_with qs a b one) other
+continues_on qs (Err e) a b c one other = tt
 
 -- the calls of a session after those that waited were sent: they are taken out, there is memory for them, and those that were announced are in flight
 pub flushed : (a b c d e : Calls) (was : Bool) (count n : ℕ) (waited sent : List Flight) → (b.flights ≡ a.flights) × (b.entries ≡ a.entries) → waited ≡ a.waiting.flights.items → b.waiting.flights.items ≡ []
     → (c.waiting ≡ b.waiting) × (c.entries ≡ b.entries) → c.flights.flights.items ≡ b.flights.flights.items → d ≡ c → n ≡ length waited → sent ≡ take count waited
     → (e.waiting ≡ d.waiting) × (e.entries ≡ d.entries) → e.flights.flights.items ≡ d.flights.flights.items ++ sent
-    → AreKept a e × ((q : Asked) → Contains (taken_up a) q → ((was || nat_lt count n) ≡ true) ⊎ Contains (taken_up e) q)
+    → AreKept a e × ((q : Asked) → Contains (calls_taken_up a) q → ((was || nat_lt count n) ≡ true) ⊎ Contains (calls_taken_up e) q) × TakesUpOnly [] a e
 flushed a b c d e was count n waited sent taken all none reserved same written many cut others added =
     let entries : e.entries ≡ a.entries = others.1 ∙ ap (λ (x : Calls). x.entries) written ∙ reserved.1 ∙ taken.1 in
     let waiting : e.waiting.flights.items ≡ [] = ap (λ (w : Flights). w.flights.items) (others.0 ∙ ap (λ (x : Calls). x.waiting) written ∙ reserved.0) ∙ none in
@@ -217,13 +231,15 @@ flushed a b c d e was count n waited sent taken all none reserved same written m
     let more : e.flights.flights.items ≡ a.flights.flights.items ++ take count a.waiting.flights.items = added ∙ ap (λ fs. fs ++ sent) flights ∙ ap (λ fs. a.flights.flights.items ++ fs) (cut ∙ ap (take count) all) in
     let as_many : n ≡ length a.waiting.flights.items = many ∙ ap length all in (
       kept_sent a e (take count a.waiting.flights.items) more (ap (λ (es : Vec LogEntry Global). es.items) entries),
-      λ q h. rw as_many (begun_sent a e was count waiting more entries q h),
+      (λ q h. rw as_many (begun_sent a e was count waiting more entries q h)),
+      only_sent a e count waiting more entries,
     )
 
 -- the request at a place, which has a number and was sent to a provider, is the one whose reply is noted
-pub noted_at : {A E : Type 0} (r : Result A E) (provider id place : ℕ) (reply : Reply) (c d : Calls) → place < length c.flights.flights.items
+pub noted_at : {A E : Type 0} (C : Type 0) (r : Result A E) (provider id place : ℕ) (reply : Reply) (c d : Calls) → place < length c.flights.flights.items
     → ((f : Flight) → ((slice_index_or c.flights.flights.items place f).id ≡ id) × ((slice_index_or c.flights.flights.items place f).provider ≡ provider))
-    → OnOk r ((f : Flight) × (f ≡ slice_index_or c.flights.flights.items place f) × (d.entries.items ≡ c.entries.items ++ Answered f.request reply ∷ [])) → OnOk r (IsNoted provider id reply c d)
-noted_at (Ok v) provider id place reply c d within sent (f, is, entries) =
+    → OnOk r ((f : Flight) × (f ≡ slice_index_or c.flights.flights.items place f) × (d.entries.items ≡ c.entries.items ++ Answered f.request reply ∷ []))
+    → OnOk r (C ⊎ ((f : Flight) × Contains c.flights.flights.items f × (f.id ≡ id) × (f.provider ≡ provider) × (d.entries.items ≡ c.entries.items ++ Answered f.request reply ∷ [])))
+noted_at C (Ok v) provider id place reply c d within sent (f, is, entries) =
     inr (f, (place, within, sym is), ap (λ (x : Flight). x.id) is ∙ (sent f).0, ap (λ (x : Flight). x.provider) is ∙ (sent f).1, entries)
-noted_at (Err e) provider id place reply c d within sent holds = tt
+noted_at C (Err e) provider id place reply c d within sent holds = tt

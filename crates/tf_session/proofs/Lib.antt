@@ -1,4 +1,5 @@
 pub mod Kept
+mod Only
 mod Same
-mod Served
+pub mod Served
 mod Together

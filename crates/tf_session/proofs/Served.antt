@@ -17,7 +17,7 @@ use Rattle.tf_provider_remote.specs.Flights.{has_call, is_call}
 use Rattle.tf_provider_remote.specs.declared.flights.Flight.{Flight}
 use Rattle.tf_session.proofs.Kept.{first_or_later, or_left, or_right}
 use Rattle.tf_session.proofs.Same.{about_call, about_itself, is_call_itself}
-use Rattle.tf_session.specs.Calls.{Continues, IsMade, IsTakenUp, has_begun, made, request_in, taken_up}
+use Rattle.tf_session.specs.Calls.{Continues, IsMade, IsTakenUp, calls_made, calls_taken_up, has_begun, request_in}
 use Rattle.tf_session.specs.Laws.{MadeCallsHaveBegun}
 use Rattle.tf_session.specs.declared.calls.Calls.{Calls}
 use Rattle.tf_session.specs.declared.session.Session.{Session}
@@ -55,7 +55,7 @@ any_about q (e ∷ es) h =
     ]
 
 -- a request that is begun is taken up
-begun_any : (q : Asked) (c : Calls) → has_begun q c ≡ true → list_any (is_call q) (taken_up c) ≡ true
+begun_any : (q : Asked) (c : Calls) → has_begun q c ≡ true → list_any (is_call q) (calls_taken_up c) ≡ true
 begun_any q c h =
     let waiting = map (λ f. asked f.request) c.waiting.flights.items in
     let flights = map (λ f. asked f.request) c.flights.flights.items in
@@ -68,56 +68,56 @@ begun_any q c h =
       | inr about ↦ any_right (is_call q) waiting (flights ++ ended) (any_right (is_call q) flights ended (any_about q c.entries.items about))
     ]
 
-pub taken_begun : (C : Type 0) (q : Asked) (c : Calls) → has_begun q c ≡ true → C ⊎ (list_any (is_call q) (taken_up c) ≡ true)
+pub taken_begun : (C : Type 0) (q : Asked) (c : Calls) → has_begun q c ≡ true → C ⊎ (list_any (is_call q) (calls_taken_up c) ≡ true)
 taken_begun C q c h = inr (begun_any q c h)
 
 -- a request that is among those begun is taken up
-taken_there : (q : Asked) (c : Calls) → Contains (taken_up c) q → list_any (is_call q) (taken_up c) ≡ true
-taken_there q c h = any_of (is_call q) (taken_up c) q h (is_call_itself q)
+taken_there : (q : Asked) (c : Calls) → Contains (calls_taken_up c) q → list_any (is_call q) (calls_taken_up c) ≡ true
+taken_there q c h = any_of (is_call q) (calls_taken_up c) q h (is_call_itself q)
 
 -- what is taken up stays so
-pub taken_then : (a b : Session) (q : Asked) → Continues a b → IsTakenUp q a → IsTakenUp q b
-taken_then a b q on (inl closed) = inl (on.closed closed)
-taken_then a b q on (inr any) =
-    let found = one_of (is_call q) (taken_up a.calls) any in
+pub taken_then : (qs : List Asked) (a b : Session) (q : Asked) → Continues qs a b → IsTakenUp q a → IsTakenUp q b
+taken_then qs a b q on (inl closed) = inl (on.closed closed)
+taken_then qs a b q on (inr any) =
+    let found = one_of (is_call q) (calls_taken_up a.calls) any in
     elim (on.taken_up found.item found.there) [
       | inl closed ↦ inl closed
-      | inr there ↦ inr (any_of (is_call q) (taken_up b.calls) found.item there found.passes)
+      | inr there ↦ inr (any_of (is_call q) (calls_taken_up b.calls) found.item there found.passes)
     ]
 
 -- what is made stays so
-pub made_then : (a b : Session) (q : Asked) → Continues a b → IsMade q a → IsMade q b
-made_then a b q on (inl closed) = inl (on.closed closed)
-made_then a b q on (inr any) =
-    let found = one_of (is_call q) (made a.calls) any in
-    inr (any_of (is_call q) (made b.calls) found.item (on.calls.made found.item found.there) found.passes)
+pub made_then : (qs : List Asked) (a b : Session) (q : Asked) → Continues qs a b → IsMade q a → IsMade q b
+made_then qs a b q on (inl closed) = inl (on.closed closed)
+made_then qs a b q on (inr any) =
+    let found = one_of (is_call q) (calls_made a.calls) any in
+    inr (any_of (is_call q) (calls_made b.calls) found.item (on.calls.made found.item found.there) found.passes)
 
 -- what is taken up is made, if none waits
 made_if_none_waits : (s : Session) (q : Asked) → (s.is_closed ≡ true) ⊎ (s.calls.waiting.flights.items ≡ []) → IsTakenUp q s → IsMade q s
 made_if_none_waits s q none (inl closed) = inl closed
 made_if_none_waits s q (inl closed) taken = inl closed
-made_if_none_waits s q (inr none) (inr any) = inr (subst (λ w. list_any (is_call q) (map (λ f. asked f.request) w ++ made s.calls) ≡ true) none any)
+made_if_none_waits s q (inr none) (inr any) = inr (subst (λ w. list_any (is_call q) (map (λ f. asked f.request) w ++ calls_made s.calls) ≡ true) none any)
 
 -- the same for each of some requests
-pub all_taken_then : (a b : Session) (rs : List Request) → Continues a b → All (λ r. IsTakenUp (asked r) a) rs → All (λ r. IsTakenUp (asked r) b) rs
-all_taken_then a b rs on all = All-weaker (λ r. IsTakenUp (asked r) a) (λ r. IsTakenUp (asked r) b) (λ r h. taken_then a b (asked r) on h) rs all
+pub all_taken_then : (qs : List Asked) (a b : Session) (rs : List Request) → Continues qs a b → All (λ r. IsTakenUp (asked r) a) rs → All (λ r. IsTakenUp (asked r) b) rs
+all_taken_then qs a b rs on all = All-weaker (λ r. IsTakenUp (asked r) a) (λ r. IsTakenUp (asked r) b) (λ r h. taken_then qs a b (asked r) on h) rs all
 
-pub all_made_then : (a b : Session) (rs : List Request) → Continues a b → All (λ r. IsMade (asked r) a) rs → All (λ r. IsMade (asked r) b) rs
-all_made_then a b rs on all = All-weaker (λ r. IsMade (asked r) a) (λ r. IsMade (asked r) b) (λ r h. made_then a b (asked r) on h) rs all
+pub all_made_then : (qs : List Asked) (a b : Session) (rs : List Request) → Continues qs a b → All (λ r. IsMade (asked r) a) rs → All (λ r. IsMade (asked r) b) rs
+all_made_then qs a b rs on all = All-weaker (λ r. IsMade (asked r) a) (λ r. IsMade (asked r) b) (λ r h. made_then qs a b (asked r) on h) rs all
 
-pub all_made : (a b : Session) (rs : List Request) → Continues a b → (b.is_closed ≡ true) ⊎ (b.calls.waiting.flights.items ≡ []) → All (λ r. IsTakenUp (asked r) a) rs → All (λ r. IsMade (asked r) b) rs
-all_made a b rs on none all = All-weaker (λ r. IsTakenUp (asked r) a) (λ r. IsMade (asked r) b) (λ r h. made_if_none_waits b (asked r) none (taken_then a b (asked r) on h)) rs all
+pub all_made : (qs : List Asked) (a b : Session) (rs : List Request) → Continues qs a b → (b.is_closed ≡ true) ⊎ (b.calls.waiting.flights.items ≡ []) → All (λ r. IsTakenUp (asked r) a) rs → All (λ r. IsMade (asked r) b) rs
+all_made qs a b rs on none all = All-weaker (λ r. IsTakenUp (asked r) a) (λ r. IsMade (asked r) b) (λ r h. made_if_none_waits b (asked r) none (taken_then qs a b (asked r) on h)) rs all
 
 pub all_closed : (s : Session) (rs : List Request) → s.is_closed ≡ true → All (λ r. IsTakenUp (asked r) s) rs
 all_closed s rs closed k d within = inl closed
 
 -- one call more is taken up
-pub one_more : (a b : Session) (rs : List Request) (r : Request) → Continues a b → All (λ r. IsTakenUp (asked r) a) rs → IsTakenUp (asked r) b → All (λ r. IsTakenUp (asked r) b) (rs ++ r ∷ [])
-one_more a b rs r on all one = All-push (λ r. IsTakenUp (asked r) b) rs r (all_taken_then a b rs on all) one
+pub one_more : (qs : List Asked) (a b : Session) (rs : List Request) (r : Request) → Continues qs a b → All (λ r. IsTakenUp (asked r) a) rs → IsTakenUp (asked r) b → All (λ r. IsTakenUp (asked r) b) (rs ++ r ∷ [])
+one_more qs a b rs r on all one = All-push (λ r. IsTakenUp (asked r) b) rs r (all_taken_then qs a b rs on all) one
 
 -- a request whose reply was noted is taken up
 pub taken_answered : {A E : Type 0} (C P : Type 0) (r : Result A E) (q : Request) (a : Reply) (c : Calls) (es : List LogEntry) → MatchResult r (λ _. c.entries.items ≡ es ++ Answered q a ∷ []) (λ _. P)
-    → OnOk r (C ⊎ (list_any (is_call (asked q)) (taken_up c) ≡ true))
+    → OnOk r (C ⊎ (list_any (is_call (asked q)) (calls_taken_up c) ≡ true))
 taken_answered C P (Ok v) q a c es holds =
     let flights = map (λ f. asked f.request) c.flights.flights.items in
     let ended = map (λ e. request_in (log_entry_of e)) c.entries.items in
@@ -126,10 +126,10 @@ taken_answered C P (Ok v) q a c es holds =
 taken_answered C P (Err e) q a c es holds = tt
 
 -- a request that waits is taken up
-pub taken_waits : {A E : Type 0} (C : Type 0) (r : Result A E) (f : Flight) (c : Calls) (fs : List Flight) → OnOk r (c.waiting.flights.items ≡ fs ++ f ∷ []) → OnOk r (C ⊎ (list_any (is_call (asked f.request)) (taken_up c) ≡ true))
+pub taken_waits : {A E : Type 0} (C : Type 0) (r : Result A E) (f : Flight) (c : Calls) (fs : List Flight) → OnOk r (c.waiting.flights.items ≡ fs ++ f ∷ []) → OnOk r (C ⊎ (list_any (is_call (asked f.request)) (calls_taken_up c) ≡ true))
 taken_waits C (Ok v) f c fs waits =
     let last : Contains (map (λ f. asked f.request) c.waiting.flights.items) (asked f.request) = rw (waits, map-append (λ (f : Flight). asked f.request) fs (f ∷ [])) (Contains-push (map (λ f. asked f.request) fs) (asked f.request)) in
-    inr (taken_there (asked f.request) c (Contains-append_left (map (λ f. asked f.request) c.waiting.flights.items) (made c) (asked f.request) last))
+    inr (taken_there (asked f.request) c (Contains-append_left (map (λ f. asked f.request) c.waiting.flights.items) (calls_made c) (asked f.request) last))
 taken_waits C (Err e) f c fs waits = tt
 
 -- an entry of a list is about a request that is in one of them

@@ -4,7 +4,7 @@ ghost use Rattle.std.specs.Prelude.{◌≡◌, ◌+◌, ◌<◌, ◌≤◌, ◌+
 ghost use Rattle.tf_provider_log.specs.declared.entry.LogEntry.TheVariants.{Answered};
 ghost use Rattle.tf_provider_protocol.specs.Meaning.{asked};
 ghost use Rattle.tf_provider_remote.specs.declared.flights.Flight.{Flight};
-ghost use Rattle.tf_session.specs.Calls.{AreKept, has_begun, have_begun};
+ghost use Rattle.tf_session.specs.Calls.{AreKept, TakesUpOnly, has_begun};
 
 use std::alloc::{AllocError, Global};
 use std::mem;
@@ -40,18 +40,6 @@ impl Calls {
         ensures { result ≡ has_begun (asked request.now) self.now }
     {
         self.waiting.has(request) || self.flights.has(request) || is_begun(&self.entries, request)
-    }
-
-    /// Returns whether each of these requests waits, is in flight or has ended.
-    pub(crate) fn have_begun(&self, requests: &[Request]) -> bool
-        ensures { result ≡ have_begun (map asked requests.now) self.now }
-    {
-        for request in requests {
-            if !self.has_begun(request) {
-                return false;
-            }
-        }
-        true
     }
 
     /// Has a request wait for the next sync of the log. It is neither in flight nor ended, and doesn't wait yet, so it wasn't sent
@@ -104,6 +92,7 @@ impl Calls {
         requires { place < length self.old.flights.flights.items }
         ensures waiting { self.new.waiting ≡ self.old.waiting }
         ensures kept { AreKept self.old self.new }
+        ensures only { TakesUpOnly [] self.old self.new }
         ensures noted { OnOk result ((f : Flight) × (f ≡ slice_index_or self.old.flights.flights.items place f) × (self.new.entries.items ≡ self.old.entries.items ++ Answered f.request reply ∷ [])) }
     {
         self.entries.reserve(1)?;
@@ -118,6 +107,7 @@ impl Calls {
     /// Fails only if memory runs out.
     pub(crate) fn answer(&mut self, request: Request, reply: Reply) -> Result<(), AllocError>
         ensures kept { AreKept self.old self.new }
+        ensures only { TakesUpOnly (asked request ∷ []) self.old self.new }
         ensures others { (self.new.waiting ≡ self.old.waiting) × (self.new.flights ≡ self.old.flights) }
         ensures answered { MatchResult result (λ _. self.new.entries.items ≡ self.old.entries.items ++ Answered request reply ∷ []) (λ _. self.new.entries.items ≡ self.old.entries.items) }
         ensures succeeds { length self.old.entries.items < vec_capacity self.old.entries → IsOk result }

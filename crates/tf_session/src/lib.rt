@@ -4,7 +4,6 @@
 
 mod calls;
 mod laws;
-mod notes;
 mod own;
 mod pipes;
 mod remotes;
@@ -15,11 +14,10 @@ mod session;
 mod watched;
 
 pub use laws::made_calls_have_begun;
-pub use notes::{Noted, Notes};
 pub use pipes::{Pipe, check_pipes, open_pipes};
 pub use remotes::read_types;
 pub use repeating::{repeat_idempotent, without_idempotent};
-pub use replaying::{NotedProviders, ReplayedProviders, noted_providers, replayed_providers};
+pub use replaying::{ReplayedProviders, replayed_providers};
 pub use results::add_results;
 pub use session::{ApplyLog, Session};
 pub use watched::{WatchedFiles, WatchedProviders, WatchedSim, watched_providers};

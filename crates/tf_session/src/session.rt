@@ -1,9 +1,9 @@
 //! The calls of an apply with providers outside the program.
 
-ghost use Rattle.std.specs.Prelude.{◌≡◌, ◌&&◌, ◌||◌, ◌⊎◌, [], All, IfOk, OnOk, is_none, map, true};
+ghost use Rattle.std.specs.Prelude.{◌≡◌, ◌⊎◌, ◌∷◌, [], All, IfOk, OnOk, false, is_some, length, map, replicate, true};
 ghost use Rattle.tf_provider_protocol.specs.Meaning.{asked};
 ghost use Rattle.tf_provider_remote.specs.Flights.{next_provider};
-ghost use Rattle.tf_session.specs.Calls.{Continues, IsMade, IsNoted, IsTakenUp, have_begun};
+ghost use Rattle.tf_session.specs.Calls.{Continues, IsMade, IsNoted, IsTakenUp, calls_taken_up};
 
 use crate::calls::Calls;
 use crate::pipes::{Loss, Pipe};
@@ -55,7 +55,9 @@ impl Session {
         events: ApplyEvents,
     ) -> Result<Session, AllocError>
         ensures types { IfOk result (λ session. session.types ≡ types) }
-        ensures none { IfOk result (λ session. (session.calls.flights.flights.items ≡ []) × (session.calls.entries.items ≡ [])) }
+        ensures none { IfOk result (λ session. calls_taken_up session.calls ≡ []) }
+        ensures open { IfOk result (λ session. session.is_closed ≡ false) }
+        ensures none_lost { IfOk result (λ session. session.lost.items ≡ replicate (length pipes.items) false) }
     {
         let mut lost = Vec::new(alloc);
         for _ in 0..pipes.len() {
@@ -94,18 +96,16 @@ impl Session {
         &self.calls.flights
     }
 
-    /// Returns whether no call is to be begun, and no reply can come any more. These requests are those that the log doesn't answer. A
-    /// reply can come for a request in flight whose provider isn't lost.
-    pub fn is_finished(&self, unanswered: &[Request]) -> bool
-        ensures { result ≡ (is_none (next_provider self.now.lost.items self.now.calls.flights.flights.items) && (self.now.is_closed || have_begun (map asked unanswered.now) self.now.calls)) }
+    /// Returns whether a reply can come: a request is in flight whose provider isn't lost.
+    pub fn awaits_reply(&self) -> bool
+        ensures { result ≡ is_some (next_provider self.now.lost.items self.now.calls.flights.flights.items) }
     {
-        self.calls.flights.next_provider(&self.lost).is_none()
-            && (self.is_closed || self.calls.have_begun(unanswered))
+        self.calls.flights.next_provider(&self.lost).is_some()
     }
 
     /// Makes those of these calls that aren't begun, and takes replies. Calls of providers outside the program are sent; `providers`
-    /// are called for the others. If a provider is lost, or a stop file exists that the options name, nothing more is begun. Forgets no
-    /// call that was made, so none is made twice.
+    /// are called for the others. If a provider is lost, or a stop file exists that the options name, nothing more is begun. Makes no
+    /// other call, and forgets none that was made, so none is made twice.
     ///
     /// # Errors
     ///
@@ -119,7 +119,7 @@ impl Session {
         unanswered: Vec<Request>,
         err: &mut E,
     ) -> Result<(), AllocError>
-        ensures continues { OnOk result (Continues self.old self.new) }
+        ensures continues { OnOk result (Continues (map asked unanswered.items) self.old self.new) }
         ensures made { OnOk result (All (λ r. IsMade (asked r) self.new) unanswered.items) }
     {
         self.make_all(rt, log, providers, given, unanswered, err)?;
@@ -142,7 +142,7 @@ impl Session {
         requests: Vec<Request>,
         err: &mut E,
     ) -> Result<(), AllocError>
-        ensures continues { OnOk result (Continues self.old self.new) }
+        ensures continues { OnOk result (Continues (map asked requests.items) self.old self.new) }
         ensures taken_up { OnOk result (All (λ r. IsTakenUp (asked r) self.new) requests.items) }
     {
         for request in requests {
@@ -173,7 +173,7 @@ impl Session {
         request: Request,
         err: &mut E,
     ) -> Result<(), AllocError>
-        ensures continues { OnOk result (Continues self.old self.new) }
+        ensures continues { OnOk result (Continues (asked request ∷ []) self.old self.new) }
         ensures taken_up { OnOk result (IsTakenUp (asked request) self.new) }
     {
         let folders = given.options.providers.as_slice();
@@ -193,7 +193,7 @@ impl Session {
         providers: &[Box<dyn Provider + Sync>],
         request: Request,
     ) -> Result<(), AllocError>
-        ensures continues { OnOk result (Continues self.old self.new) }
+        ensures continues { OnOk result (Continues (asked request ∷ []) self.old self.new) }
         ensures taken_up { OnOk result (IsTakenUp (asked request) self.new) }
     {
         if self.calls.has_begun(&request) {
@@ -218,7 +218,7 @@ impl Session {
         request: Request,
         err: &mut E,
     ) -> Result<(), AllocError>
-        ensures continues { OnOk result (Continues self.old self.new) }
+        ensures continues { OnOk result (Continues (asked request ∷ []) self.old self.new) }
         ensures taken_up { OnOk result (IsTakenUp (asked request) self.new) }
     {
         let line = match request_line(rt.alloc(), self.next_id, &request) {
@@ -252,7 +252,7 @@ impl Session {
         size: usize,
         err: &mut E,
     ) -> Result<(), AllocError>
-        ensures { OnOk result (Continues self.old self.new) }
+        ensures { OnOk result (Continues [] self.old self.new) }
     {
         for _ in 0..u64::MAX {
             if self.is_closed || self.has_room(size) {
@@ -283,7 +283,7 @@ impl Session {
         folders: &[String],
         err: &mut E,
     ) -> Result<(), AllocError>
-        ensures continues { OnOk result (Continues self.old self.new) }
+        ensures continues { OnOk result (Continues [] self.old self.new) }
         ensures sent { OnOk result ((self.new.is_closed ≡ true) ⊎ (self.new.calls.waiting.flights.items ≡ [])) }
     {
         if self.is_closed || self.calls.waiting.is_empty() {
@@ -348,7 +348,7 @@ impl Session {
         folders: &[String],
         err: &mut E,
     ) -> Result<(), AllocError>
-        ensures { OnOk result (Continues self.old self.new) }
+        ensures { OnOk result (Continues [] self.old self.new) }
     {
         let Some(provider) = self.calls.flights.next_provider(&self.lost) else {
             return Ok(());
@@ -376,7 +376,7 @@ impl Session {
         responses: Responses,
         err: &mut E,
     ) -> Result<(), AllocError>
-        ensures { OnOk result (Continues self.old self.new) }
+        ensures { OnOk result (Continues [] self.old self.new) }
     {
         let is_faulty = responses.is_faulty;
         for response in responses.replies {
@@ -398,8 +398,8 @@ impl Session {
         response: Response,
         err: &mut E,
     ) -> Result<(), AllocError>
-        ensures continues { OnOk result (Continues self.old self.new) }
-        ensures noted { OnOk result (IsNoted provider response.id response.reply self.old.calls self.new.calls) }
+        ensures continues { OnOk result (Continues [] self.old self.new) }
+        ensures noted { OnOk result (IsNoted provider response.id response.reply self.old self.new) }
     {
         if self.lost.get(provider) == Some(&true) {
             return Ok(());
