@@ -6,11 +6,13 @@
 #![tactic(auto)]
 
 mod holding;
+mod lane;
 pub mod laws;
 mod part;
 mod rule;
 mod tally;
 
 pub use holding::Holding;
+pub use lane::Lane;
 pub use part::Part;
 pub use tally::Tally;

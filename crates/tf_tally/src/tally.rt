@@ -1,14 +1,25 @@
 //! The tally.
 
 ghost use Rattle.std.specs.Prelude.{◌≡◌, ◌<◌, IfOk};
+ghost use Rattle.tf_tally.specs.declared.tally.TheConstants.{WORDS};
 ghost use Rattle.tf_tally.specs.Holdings.{first_holding, staying, going, merged, added, IsAll, IsBalanced};
 
 use crate::holding::Holding;
+use crate::lane::Lane;
 use crate::part::Part;
 use crate::rule::{Add, Audit, Away, Law, Together};
 use atomic_table::Table;
 use std::alloc::{AllocError, Global};
 use std::marker::Model;
+
+/// How many words a cache line has.
+const LINE: usize = 8;
+
+/// How many threads can add entries on cache lines of their own.
+const LANES: usize = 64;
+
+/// The words: the first is only read, and each of the others that is used is on a line of its own.
+pub(crate) const WORDS: usize = LINE + LINE * LANES;
 
 /// A tally, which deals out parts and adds entries to them. Its parts are used only with it. Contracts see which tally it is.
 #[derive(Drop)]
@@ -18,13 +29,14 @@ pub struct Tally<E> {
 
 impl<E> Model for Tally<E> {
     ghost use Rattle.std.specs.Prelude.{◌≡◌};
+    ghost use Rattle.tf_tally.specs.declared.tally.TheConstants.{WORDS};
     ghost use Rattle.atomic_table.specs.Seated.{TableId};
 
     ghost Value = { TableId };
 
     ghost view = { λ t. t.table.shared.table_id };
 
-    ghost invariant = { λ t. t.table.shared.table_id.words ≡ 1 };
+    ghost invariant = { λ t. t.table.shared.table_id.words ≡ WORDS };
 }
 
 impl<E> Tally<E> {
@@ -38,7 +50,7 @@ impl<E> Tally<E> {
         ensures part { IfOk result (λ made. made.1.table ≡ made.0) }
         ensures holding { IfOk result (λ made. made.1.holding ≡ first_holding parts) }
     {
-        let (table, seat) = Table::of_words(alloc, &[0], &parts)?;
+        let (table, seat) = Table::of_words(alloc, &[0; WORDS], &parts)?;
         Ok((Tally { table }, Part { seat }))
     }
 
@@ -68,15 +80,23 @@ impl<E> Tally<E> {
             .join_seat::<Together>(&mut part.seat, seat);
     }
 
-    /// Adds an entry to a part, which keeps it and reports it.
-    pub fn add(&self, part: &mut Part<E>, entry: &E)
+    /// Returns the tally as the thread with this number uses it. If there are more than 64 threads, some share a cache line.
+    pub fn lane(&self, thread: usize) -> Lane<'_, E>
+        ensures { result ≡ self.now }
+    {
+        Lane::of(self, LINE + LINE * (thread % LANES))
+    }
+
+    /// Adds an entry to a part, by a step on the given word.
+    pub(crate) fn add_at(&self, word: usize, part: &mut Part<E>, entry: &E)
+        requires word { word < WORDS }
         requires part { part.old.table ≡ self.now }
         ensures same { part.new.table ≡ self.now }
         ensures added { part.new.holding ≡ added entry.now part.old.holding }
     {
         self.table
             .shared
-            .compare_exchange_with::<Add>(&mut part.seat, 0, 0, 0, entry);
+            .compare_exchange_with::<Add>(&mut part.seat, word, 0, 0, entry);
     }
 
     /// Looks at a part, and changes nothing. Where it has all parts, what it reports is what it keeps, however entries are

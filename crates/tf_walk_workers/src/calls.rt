@@ -13,7 +13,7 @@ use std::sync::{Mutex, Wait};
 use std::thread;
 use tf_claim::{Finished, Permit};
 use tf_provider::{Called, Provider, first_provider};
-use tf_tally::{Part, Tally};
+use tf_tally::{Lane, Part};
 use tf_walk_action::{ActionResult, Going, PreparedCall, call_in_time, ended_by};
 
 /// The result of an action, the right to report the action as done, and a part of the walk's tally.
@@ -43,7 +43,7 @@ pub(crate) fn serve<N: WalkBrand, R: Wait>(
     rt: &R,
     providers: &[Box<dyn Provider + Sync>],
     log: &Mutex<Log<N>>,
-    tally: &Tally<CallRecord>,
+    tally: &Lane<'_, CallRecord>,
     permit: Permit,
     going: Going,
     asking: PreparedCall,
@@ -72,7 +72,7 @@ fn make_call<N: WalkBrand, R: Wait>(
     rt: &R,
     provider: &Box<dyn Provider + Sync>,
     log: &Mutex<Log<N>>,
-    tally: &Tally<CallRecord>,
+    tally: &Lane<'_, CallRecord>,
     permit: Permit,
     going: Going,
     asking: PreparedCall,
@@ -100,7 +100,7 @@ fn make_call<N: WalkBrand, R: Wait>(
 fn record<N: WalkBrand, R: Wait>(
     rt: &R,
     log: &Mutex<Log<N>>,
-    tally: &Tally<CallRecord>,
+    tally: &Lane<'_, CallRecord>,
     called: Called,
     part: Part<CallRecord>,
 ) -> Logged

@@ -11,7 +11,7 @@ use crate::walk_brand::WalkBrand;
 use std::marker::{Model, PhantomData};
 use std::sync::Mutex;
 use tf_provider::{Called, Journal, Recorded};
-use tf_tally::{Part, Tally};
+use tf_tally::{Lane, Part};
 
 /// The journal of a walk, which workers share under a lock, and the part of the walk's tally that keeps what is recorded in
 /// it. The journal is over the order of the walk's plan, and each entry says what its action has its provider do. Contracts
@@ -89,7 +89,7 @@ impl<N: WalkBrand> Log<N> {
     /// call, it is returned with the part, and nothing changes.
     pub(crate) fn record(
         &mut self,
-        tally: &Tally<CallRecord>,
+        tally: &Lane<'_, CallRecord>,
         called: Called,
         part: Part<CallRecord>,
     ) -> Result<Logged, Unlogged>
@@ -108,9 +108,9 @@ impl<N: WalkBrand> Log<N> {
         };
         match self.journal.record(called) {
             Ok(recorded) => {
-                tally.merge(&mut self.keeper, part);
+                tally.tally().merge(&mut self.keeper, part);
                 tally.add(&mut self.keeper, &call);
-                let part = tally.split_off(&mut self.keeper);
+                let part = tally.tally().split_off(&mut self.keeper);
                 Ok(Logged { recorded, part })
             }
             Err((called, _)) => Err(Unlogged { called, part }),

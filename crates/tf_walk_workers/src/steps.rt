@@ -20,7 +20,7 @@ use tf_claim::Permit;
 use tf_config_names::Declarations;
 use tf_plan_data::Plan;
 use tf_provider::Provider;
-use tf_tally::{Part, Tally};
+use tf_tally::{Lane, Part};
 use tf_walk_action::{ActionResult, Stop};
 
 /// What a worker uses, besides the providers: the plan of a walk, the names of its configuration, the cells of the
@@ -39,8 +39,8 @@ pub struct WorkerContext<'a, N: WalkBrand, R> {
     pub cells: &'a Cells<N>,
     /// The journal.
     pub journal: &'a Mutex<Log<N>>,
-    /// The tally of the walk's calls.
-    pub tally: &'a Tally<CallRecord>,
+    /// The tally of the walk's calls, as this worker uses it.
+    pub tally: Lane<'a, CallRecord>,
     /// The flag that stops the walk.
     pub stop: &'a Stop,
 }
@@ -60,7 +60,7 @@ impl<'a, N: WalkBrand, R: Wait> WorkerContext<'a, N, R> {
         part: Part<CallRecord>,
     ) -> (Published, Part<CallRecord>)
         requires walk { IsOfWalk N.plan N.meanings self.now.plan.now (names_in self.now.names.now) self.now.cells.now (map meaning providers.now) }
-        requires tally { self.now.tally.now ≡ N.table }
+        requires tally { self.now.tally ≡ N.table }
         requires flag { self.now.stop.now ≡ N.flag }
         requires within { permit < self.now.plan.now.order.nodes }
         requires part { HasParts N.table 1 [] [] part }
@@ -84,7 +84,7 @@ impl<'a, N: WalkBrand, R: Wait> WorkerContext<'a, N, R> {
         part: Part<CallRecord>,
     ) -> ActionEnd
         requires walk { IsOfWalk N.plan N.meanings self.now.plan.now (names_in self.now.names.now) self.now.cells.now (map meaning providers.now) }
-        requires tally { self.now.tally.now ≡ N.table }
+        requires tally { self.now.tally ≡ N.table }
         requires flag { self.now.stop.now ≡ N.flag }
         requires within { permit < self.now.plan.now.order.nodes }
         requires part { HasParts N.table 1 [] [] part }
@@ -112,7 +112,7 @@ impl<'a, N: WalkBrand, R: Wait> WorkerContext<'a, N, R> {
                 self.rt,
                 providers,
                 self.journal,
-                self.tally,
+                &self.tally,
                 permit,
                 going,
                 asking,

@@ -240,7 +240,7 @@ impl<'a, N: WalkBrand, B: WalkInput<N>, R: Wait> Worker<'a, '_, N, B, R> {
             names: self.walk_input.names(),
             cells: self.walk_input.cells(),
             journal: walk.journal,
-            tally: walk.tally,
+            tally: walk.tally.lane(position.place),
             stop: walk.stop,
         };
         let (published, part) = context.end_action(providers, permit, &mut position.memo, part);
