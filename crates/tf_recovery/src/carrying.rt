@@ -56,7 +56,7 @@ pub(crate) fn carried_out<T: Wait, E: Write>(
     unreachable!()
 }
 
-/// Ends an apply: prints what follows the plan's text, writes the state if it changed, and empties the log. If requests are still in
+/// Ends an apply: prints whether it was stopped and what follows the plan's text, writes the state if it changed, and empties the log. If requests are still in
 /// flight, prints these and how to go on; the state and the log then stay as they are, unless the log lacks a reply.
 pub(crate) fn finish<O: Write, E: Write>(
     rt: &HostRuntime,
@@ -71,6 +71,9 @@ pub(crate) fn finish<O: Write, E: Write>(
     err: &mut E,
 ) -> ExitCode {
     let _ = log.sync();
+    if session.is_stopped() {
+        let _ = writeln!(err, "warning: stopped, so nothing more was begun");
+    }
     if session.flights().is_empty() || log.is_lost() {
         print_flights(rt, session, err);
         let explains = given.options.explain;

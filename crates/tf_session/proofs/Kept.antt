@@ -16,7 +16,7 @@ use Rattle.tf_provider_protocol.specs.declared.request.Reply.{Reply}
 use Rattle.tf_provider_remote.specs.declared.flights.Flight.{Flight}
 use Rattle.tf_provider_remote.specs.declared.flights.Flights.{Flights}
 use Rattle.tf_session.proofs.Only.{only_more, only_same, only_sent, only_then, only_waits}
-use Rattle.tf_session.specs.Calls.{AreKept, Continues, TakesUpOnly, calls_made, calls_taken_up, request_in}
+use Rattle.tf_session.specs.Calls.{AreKept, Continues, TakesUpOnly, calls_made, calls_taken_up, is_closed, request_in}
 use Rattle.tf_session.specs.declared.calls.Calls.{Calls}
 use Rattle.tf_session.specs.declared.session.Session.{Session}
 
@@ -163,7 +163,7 @@ pub begun_sent : (c d : Calls) (was : Bool) (count : ℕ) → d.waiting.flights.
 begun_sent c d was count none flights entries q h = rw (none, flights, entries) (all_sent was count c.waiting.flights.items c.flights.flights.items (map (λ e. request_in (log_entry_of e)) c.entries.items) q h)
 
 -- a session continues if it has the same types and calls
-pub continues_same : (qs : List Asked) (a b : Session) → (b.types ≡ a.types) × (b.calls ≡ a.calls) → (a.is_closed ≡ true → b.is_closed ≡ true) → Continues qs a b
+pub continues_same : (qs : List Asked) (a b : Session) → (b.types ≡ a.types) × (b.calls ≡ a.calls) → (is_closed a ≡ true → is_closed b ≡ true) → Continues qs a b
 continues_same qs a b (types, calls) closed = record {
   types = types;
   calls = kept_same a.calls b.calls (ap (λ (c : Calls). c.flights.flights.items) calls) (ap (λ (c : Calls). c.entries.items) calls);
@@ -173,7 +173,7 @@ continues_same qs a b (types, calls) closed = record {
 }
 
 -- a session continues if it has the same types, keeps its calls, takes up no others but these, and the same requests wait
-pub continues_by : {A E : Type 0} (qs : List Asked) (r : Result A E) (a b : Session) → b.types ≡ a.types → (a.is_closed ≡ true → b.is_closed ≡ true) → b.calls.waiting ≡ a.calls.waiting → AreKept a.calls b.calls → TakesUpOnly qs a.calls b.calls
+pub continues_by : {A E : Type 0} (qs : List Asked) (r : Result A E) (a b : Session) → b.types ≡ a.types → (is_closed a ≡ true → is_closed b ≡ true) → b.calls.waiting ≡ a.calls.waiting → AreKept a.calls b.calls → TakesUpOnly qs a.calls b.calls
     → OnOk r (Continues qs a b)
 continues_by qs (Ok v) a b types closed waiting calls only = record {
   types = types;
@@ -185,7 +185,7 @@ continues_by qs (Ok v) a b types closed waiting calls only = record {
 continues_by qs (Err e) a b types closed waiting calls only = tt
 
 -- a session continues if one request more waits
-pub continues_waits : {A E : Type 0} (r : Result A E) (a b : Session) (f : Flight) → (b.types ≡ a.types) × (b.is_closed ≡ a.is_closed) → (b.calls.flights ≡ a.calls.flights) × (b.calls.entries ≡ a.calls.entries)
+pub continues_waits : {A E : Type 0} (r : Result A E) (a b : Session) (f : Flight) → (b.types ≡ a.types) × (is_closed b ≡ is_closed a) → (b.calls.flights ≡ a.calls.flights) × (b.calls.entries ≡ a.calls.entries)
     → OnOk r (b.calls.waiting.flights.items ≡ a.calls.waiting.flights.items ++ f ∷ []) → OnOk r (Continues (asked f.request ∷ []) a b)
 continues_waits (Ok v) a b f (types, closed) (flights, entries) waits = record {
   types = types;

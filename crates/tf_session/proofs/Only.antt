@@ -1,7 +1,7 @@
 -- No other calls are taken up.
-use Rattle.std.proofs.Common.{◌≡◌, ◌∙◌, ◌<◌, ◌++◌, ◌⊎◌, ◌∷◌, [], ℕ, List, ap, drop, inl, inr, length, map, refl, subst, sym, take}
+use Rattle.std.proofs.Common.{◌≡◌, ◌<◌, ◌++◌, ◌⊎◌, ◌∷◌, [], ℕ, List, drop, inl, inr, length, map, refl, subst, sym, take}
 use Rattle.std.proofs.lemmas.List.{map-append, take-append-drop, take-map}
-use Rattle.std.proofs.lemmas.List.Elements.{Contains-append_cases, Contains-append_left, Contains-append_right, Contains-get_or}
+use Rattle.std.proofs.lemmas.List.Elements.{Contains-append_cases, Contains-append_left, Contains-append_right}
 use Rattle.std.proofs.lemmas.List.Sorted.{Contains-permutation, IsPermutation-map, IsPermutation-remove, IsPermutation-sym}
 use Rattle.std.specs.List.{Contains, remove}
 use Rattle.std.specs.Prelude.{slice_index_or}

@@ -1,7 +1,6 @@
 -- A request is the same call as itself.
 use Rattle.std.proofs.Common.{◌≡◌, List, ℕ, Option, Some, None, refl, subst, sym, true}
 use Rattle.std.proofs.lemmas.Slice.Eq.{bytes_eq-Decides}
-use Rattle.std.specs.Prelude.{◌&&◌, Bool}
 use Rattle.std.specs.Str.{bytes_eq}
 use Rattle.tf_provider_log.proofs.Replays.{same_is_equality}
 use Rattle.tf_provider_log.specs.LogEntry.{LogEntryView, begun, replied}

@@ -1,6 +1,6 @@
 -- Calls that are made.
-use Rattle.std.proofs.Common.{◌≡◌, ◌++◌, ◌⊎◌, ◌||◌, ◌∷◌, [], Bool, List, Ok, Err, Result, arith, false, inl, inr, map, refl, subst, sym, true}
-use Rattle.std.proofs.lemmas.Bool.{cases_Bool, or_cases}
+use Rattle.std.proofs.Common.{◌≡◌, ◌++◌, ◌⊎◌, ◌||◌, ◌∷◌, [], Bool, List, Ok, Err, Result, arith, inl, inr, map, subst, sym, true}
+use Rattle.std.proofs.lemmas.Bool.{or_cases}
 use Rattle.std.proofs.lemmas.List.{map-append}
 use Rattle.std.proofs.lemmas.List.Elements.{All-push, All-weaker, Contains-append_cases, Contains-append_left, Contains-append_right, Contains-push}
 use Rattle.std.proofs.lemmas.List.Folds.{list_any-append, list_any_at}
@@ -17,7 +17,7 @@ use Rattle.tf_provider_remote.specs.Flights.{has_call, is_call}
 use Rattle.tf_provider_remote.specs.declared.flights.Flight.{Flight}
 use Rattle.tf_session.proofs.Kept.{first_or_later, or_left, or_right}
 use Rattle.tf_session.proofs.Same.{about_call, about_itself, is_call_itself}
-use Rattle.tf_session.specs.Calls.{Continues, IsMade, IsTakenUp, calls_made, calls_taken_up, has_begun, request_in}
+use Rattle.tf_session.specs.Calls.{Continues, IsMade, IsTakenUp, calls_made, calls_taken_up, has_begun, is_closed, request_in}
 use Rattle.tf_session.specs.Laws.{MadeCallsHaveBegun}
 use Rattle.tf_session.specs.declared.calls.Calls.{Calls}
 use Rattle.tf_session.specs.declared.session.Session.{Session}
@@ -93,7 +93,7 @@ made_then qs a b q on (inr any) =
     inr (any_of (is_call q) (calls_made b.calls) found.item (on.calls.made found.item found.there) found.passes)
 
 -- what is taken up is made, if none waits
-made_if_none_waits : (s : Session) (q : Asked) → (s.is_closed ≡ true) ⊎ (s.calls.waiting.flights.items ≡ []) → IsTakenUp q s → IsMade q s
+made_if_none_waits : (s : Session) (q : Asked) → (is_closed s ≡ true) ⊎ (s.calls.waiting.flights.items ≡ []) → IsTakenUp q s → IsMade q s
 made_if_none_waits s q none (inl closed) = inl closed
 made_if_none_waits s q (inl closed) taken = inl closed
 made_if_none_waits s q (inr none) (inr any) = inr (subst (λ w. list_any (is_call q) (map (λ f. asked f.request) w ++ calls_made s.calls) ≡ true) none any)
@@ -105,10 +105,10 @@ all_taken_then qs a b rs on all = All-weaker (λ r. IsTakenUp (asked r) a) (λ r
 pub all_made_then : (qs : List Asked) (a b : Session) (rs : List Request) → Continues qs a b → All (λ r. IsMade (asked r) a) rs → All (λ r. IsMade (asked r) b) rs
 all_made_then qs a b rs on all = All-weaker (λ r. IsMade (asked r) a) (λ r. IsMade (asked r) b) (λ r h. made_then qs a b (asked r) on h) rs all
 
-pub all_made : (qs : List Asked) (a b : Session) (rs : List Request) → Continues qs a b → (b.is_closed ≡ true) ⊎ (b.calls.waiting.flights.items ≡ []) → All (λ r. IsTakenUp (asked r) a) rs → All (λ r. IsMade (asked r) b) rs
+pub all_made : (qs : List Asked) (a b : Session) (rs : List Request) → Continues qs a b → (is_closed b ≡ true) ⊎ (b.calls.waiting.flights.items ≡ []) → All (λ r. IsTakenUp (asked r) a) rs → All (λ r. IsMade (asked r) b) rs
 all_made qs a b rs on none all = All-weaker (λ r. IsTakenUp (asked r) a) (λ r. IsMade (asked r) b) (λ r h. made_if_none_waits b (asked r) none (taken_then qs a b (asked r) on h)) rs all
 
-pub all_closed : (s : Session) (rs : List Request) → s.is_closed ≡ true → All (λ r. IsTakenUp (asked r) s) rs
+pub all_closed : (s : Session) (rs : List Request) → is_closed s ≡ true → All (λ r. IsTakenUp (asked r) s) rs
 all_closed s rs closed k d within = inl closed
 
 -- one call more is taken up

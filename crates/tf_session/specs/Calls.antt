@@ -1,6 +1,6 @@
 -- The calls of an apply with providers outside the program.
 use Rattle.std.specs.List.{Contains, list_any}
-use Rattle.std.specs.Prelude.{◌≡◌, ◌||◌, ◌++◌, ◌∷◌, ◌⊎◌, [], Bool, ℕ, List, Some, length, map, slice_get, take, true}
+use Rattle.std.specs.Prelude.{◌≡◌, ◌||◌, ◌++◌, ◌∷◌, ◌⊎◌, [], Bool, ℕ, List, Some, is_some, length, map, slice_get, take, true}
 use Rattle.tf_provider_log.specs.LogEntry.{LogEntryView, begun, log_entry_of, replied}
 use Rattle.tf_provider_log.specs.Replayed.{is_about}
 use Rattle.tf_provider_log.specs.declared.entry.LogEntry.TheVariants.{Answered}
@@ -28,6 +28,10 @@ calls_made c = map (λ f. asked f.request) c.flights.flights.items ++ map (λ e.
 abbrev pub calls_taken_up : Calls → List Asked
 calls_taken_up c = map (λ f. asked f.request) c.waiting.flights.items ++ calls_made c
 
+-- nothing more is begun
+abbrev pub is_closed : Session → Bool
+is_closed s = is_some s.closing
+
 -- No call is forgotten: each call that was made is in flight or has ended, and each call that had ended still has its reply.
 pub record AreKept (old new : Calls) : Type 0 where
   pub made : (q : Asked) → Contains (calls_made old) q → Contains (calls_made new) q
@@ -41,7 +45,7 @@ pub record TakesUpOnly (requests : List Asked) (old new : Calls) : Type 0 where
 -- noted, and the provider was lost or nothing more is begun.
 abbrev pub IsNoted : ℕ → ℕ → Reply → Session → Session → Type 0
 IsNoted provider id reply old new =
-    ((new.calls.entries.items ≡ old.calls.entries.items) × ((slice_get old.lost.items provider ≡ Some true) ⊎ (new.is_closed ≡ true)))
+    ((new.calls.entries.items ≡ old.calls.entries.items) × ((slice_get old.lost.items provider ≡ Some true) ⊎ (is_closed new ≡ true)))
     ⊎ ((f : Flight) × Contains old.calls.flights.flights.items f × (f.id ≡ id) × (f.provider ≡ provider) × (new.calls.entries.items ≡ old.calls.entries.items ++ Answered f.request reply ∷ []))
 
 -- A session goes on with the same types of providers. It forgets no call, and takes up no call but these requests. A request that waits is
@@ -49,14 +53,14 @@ IsNoted provider id reply old new =
 pub record Continues (requests : List Asked) (old new : Session) : Type 0 where
   pub types : new.types ≡ old.types
   pub calls : AreKept old.calls new.calls
-  pub closed : old.is_closed ≡ true → new.is_closed ≡ true
-  pub taken_up : (q : Asked) → Contains (calls_taken_up old.calls) q → (new.is_closed ≡ true) ⊎ Contains (calls_taken_up new.calls) q
+  pub closed : is_closed old ≡ true → is_closed new ≡ true
+  pub taken_up : (q : Asked) → Contains (calls_taken_up old.calls) q → (is_closed new ≡ true) ⊎ Contains (calls_taken_up new.calls) q
   pub only : TakesUpOnly requests old.calls new.calls
 
 -- a call of the same operation on the same object waits or was made, or nothing more is begun
 abbrev pub IsTakenUp : Asked → Session → Type 0
-IsTakenUp q s = (s.is_closed ≡ true) ⊎ (list_any (is_call q) (calls_taken_up s.calls) ≡ true)
+IsTakenUp q s = (is_closed s ≡ true) ⊎ (list_any (is_call q) (calls_taken_up s.calls) ≡ true)
 
 -- a call of the same operation on the same object was made, or nothing more is begun
 abbrev pub IsMade : Asked → Session → Type 0
-IsMade q s = (s.is_closed ≡ true) ⊎ (list_any (is_call q) (calls_made s.calls) ≡ true)
+IsMade q s = (is_closed s ≡ true) ⊎ (list_any (is_call q) (calls_made s.calls) ≡ true)

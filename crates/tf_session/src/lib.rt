@@ -3,6 +3,7 @@
 #![tactic(auto)]
 
 mod calls;
+mod closing;
 mod laws;
 mod own;
 mod pipes;
@@ -13,11 +14,12 @@ mod results;
 mod session;
 mod watched;
 
+pub use closing::ApplyLog;
 pub use laws::made_calls_have_begun;
 pub use pipes::{Pipe, check_pipes, open_pipes};
 pub use remotes::read_types;
 pub use repeating::{repeat_idempotent, without_idempotent};
 pub use replaying::{ReplayedProviders, replayed_providers};
 pub use results::add_results;
-pub use session::{ApplyLog, Session};
+pub use session::Session;
 pub use watched::{WatchedFiles, WatchedProviders, WatchedSim, watched_providers};

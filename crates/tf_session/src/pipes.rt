@@ -1,19 +1,30 @@
 //! The two pipes of each provider outside the program.
 
+ghost use Rattle.std.specs.Prelude.{◌≡◌, ◌<◌, IfOk, length, slice_index_or};
+ghost use Rattle.tf_provider_remote.specs.declared.flights.Flight.{Flight};
+
+use crate::closing::{ApplyLog, Closing};
 use crate::remotes::file_in;
-use std::alloc::AllocError;
+use std::alloc::{AllocError, Global};
 use std::fs::{File, OpenOptions};
 use std::io::{ErrorKind, Read, Write};
 use std::process::ExitCode;
 use std::{fs, io, mem};
 use tf_provider_log::Announced;
-use tf_provider_remote::{Responses, read_replies};
+use tf_provider_protocol::{Reply, Request};
+use tf_provider_remote::{Flights, Response, Responses, read_replies};
 
 /// The most bytes of a reply's line.
 const MOST_BYTES: usize = 4_194_304;
 
 /// How many bytes are read at once.
 const AT_ONCE: usize = 65_536;
+
+/// Why a provider is lost whose pipe of replies has ended, or can't be read.
+const ENDED: &str = "its pipe of replies has ended";
+
+/// Why a provider is lost if its replies can't be read because memory ran out.
+const OUT_OF_MEMORY: &str = "out of memory";
 
 /// The two pipes of a provider: one for requests, and one for replies.
 #[derive(Drop)]
@@ -24,37 +35,128 @@ pub struct Pipe {
     pending: Vec<u8>,
 }
 
-/// Why a provider is lost.
-#[derive(Clone, Copy, Debug, PartialEq, Eq)]
-pub(crate) enum Loss {
-    /// Its pipe of requests can't be written.
-    Unwritten,
-    /// Its pipe of replies has ended, or can't be read.
-    Ended,
-    /// A line isn't a reply.
-    NotAReply,
-    /// A reply's number is of no request in flight.
-    Unasked,
-    /// A line is longer than 4 MB.
-    TooLong,
-    /// A reply's value is nested too deep.
-    TooDeep,
-    /// Memory ran out.
-    OutOfMemory,
+/// The evidence that a provider is lost. Only the functions here make one, each if it finds the reason.
+#[derive(Drop)]
+pub(crate) struct Loss {
+    /// The number of the provider.
+    provider: usize,
+    /// The reason in words.
+    reason: &'static str,
 }
 
 impl Loss {
+    /// Returns the number of the provider.
+    pub(crate) fn provider(&self) -> usize {
+        self.provider
+    }
+
     /// Returns the reason in words.
-    pub(crate) fn text(self) -> &'static str {
-        match self {
-            Loss::Unwritten => "its pipe of requests can't be written",
-            Loss::Ended => "its pipe of replies has ended",
-            Loss::NotAReply => "a line isn't a reply",
-            Loss::Unasked => "a reply to a request that isn't in flight",
-            Loss::TooLong => "a line above 4 MB",
-            Loss::TooDeep => "a reply that is nested too deep",
-            Loss::OutOfMemory => "out of memory",
-        }
+    pub(crate) fn reason(&self) -> &'static str {
+        self.reason
+    }
+}
+
+/// The replies of a provider that were read.
+pub(crate) struct Received {
+    /// The replies.
+    pub(crate) replies: Vec<Response>,
+    /// The evidence that the provider is lost, if a line after them isn't a reply.
+    pub(crate) loss: Option<Loss>,
+}
+
+/// Sends the line of a request to a provider. `Announced` shows that the log on the disk has the request as begun.
+///
+/// # Errors
+///
+/// Fails if the provider's pipe of requests can't be written.
+pub(crate) fn send_line(
+    pipes: &mut [Pipe],
+    provider: usize,
+    announced: Announced<'_>,
+    line: &str,
+) -> Result<(), Loss> {
+    let is_sent = match pipes.get_mut(provider) {
+        Some(pipe) => pipe.send(announced, line),
+        None => false,
+    };
+    if is_sent {
+        Ok(())
+    } else {
+        Err(Loss {
+            provider,
+            reason: "its pipe of requests can't be written",
+        })
+    }
+}
+
+/// Waits until more of a provider's replies can be read, and returns those whose lines are whole.
+///
+/// # Errors
+///
+/// Fails if the provider's pipe of replies has ended, if a line is above 4 MB, or if memory runs out.
+pub(crate) fn receive_from(
+    rt: &HostRuntime,
+    pipes: &mut [Pipe],
+    provider: usize,
+) -> Result<Received, Loss> {
+    let received = match pipes.get_mut(provider) {
+        Some(pipe) => pipe.receive(rt),
+        None => Err(ENDED),
+    };
+    match received {
+        Ok(responses) => Ok(Received {
+            replies: responses.replies,
+            loss: if responses.is_faulty {
+                Some(Loss {
+                    provider,
+                    reason: "a line isn't a reply",
+                })
+            } else {
+                None
+            },
+        }),
+        Err(reason) => Err(Loss { provider, reason }),
+    }
+}
+
+/// Returns the place of the request in flight to which a provider's reply has the number.
+///
+/// # Errors
+///
+/// Fails if no such request is in flight.
+pub(crate) fn place_of(flights: &Flights, provider: usize, id: u64) -> Result<usize, Loss>
+    ensures { IfOk result (λ place. (place < length flights.now.flights.items) × ((d : Flight) → ((slice_index_or flights.now.flights.items place d).id ≡ id) × ((slice_index_or flights.now.flights.items place d).provider ≡ provider))) }
+{
+    match flights.place_of(provider, id) {
+        Some(place) => Ok(place),
+        None => Err(Loss {
+            provider,
+            reason: "a reply to a request that isn't in flight",
+        }),
+    }
+}
+
+/// Writes a provider's reply to a request to the log. If the log is lost, returns the evidence that nothing more is to be begun.
+///
+/// # Errors
+///
+/// Fails if a value of the reply is nested too deep for the log, which isn't lost.
+pub(crate) fn log_reply(
+    alloc: Global,
+    log: &ApplyLog,
+    provider: usize,
+    request: &Request,
+    reply: &Reply,
+) -> Result<Option<Closing>, Loss> {
+    if log.receive(alloc, request, reply).is_ok() {
+        return Ok(None);
+    }
+    match Closing::by_log(log) {
+        Some(closing) => Ok(Some(closing)),
+        None => Err(Loss {
+            provider,
+            reason: "a reply that is nested too deep",
+        }),
     }
 }
 
@@ -83,49 +185,47 @@ impl Pipe {
         })
     }
 
-    /// Sends the line of a request. `Announced` shows that the log on the disk has the request as begun.
-    pub(crate) fn send(&mut self, _announced: Announced<'_>, line: &str) -> Result<(), Loss> {
-        match self.requests.write_all(line.as_bytes()) {
-            Ok(()) => Ok(()),
-            Err(_) => Err(Loss::Unwritten),
-        }
+    /// Sends the line of a request, and returns whether it is written. `Announced` shows that the log on the disk has the request as
+    /// begun.
+    fn send(&mut self, _announced: Announced<'_>, line: &str) -> bool {
+        self.requests.write_all(line.as_bytes()).is_ok()
     }
 
-    /// Waits until more can be read, and returns the replies whose lines are whole.
-    pub(crate) fn receive(&mut self, rt: &HostRuntime) -> Result<Responses, Loss> {
+    /// Waits until more can be read, and returns the replies whose lines are whole. If it fails, returns why in words.
+    fn receive(&mut self, rt: &HostRuntime) -> Result<Responses, &'static str> {
         self.read_more(rt)?;
         let Ok(responses) = read_replies(rt.alloc(), self.pending.as_slice()) else {
-            return Err(Loss::OutOfMemory);
+            return Err(OUT_OF_MEMORY);
         };
         if responses.read <= self.pending.len() {
             match self.pending.split_off(responses.read) {
                 Ok(rest) => drop(mem::replace(&mut self.pending, rest)),
-                Err(_) => return Err(Loss::OutOfMemory),
+                Err(_) => return Err(OUT_OF_MEMORY),
             }
         }
         if self.pending.len() > MOST_BYTES {
-            return Err(Loss::TooLong);
+            return Err("a line above 4 MB");
         }
         Ok(responses)
     }
 
     /// Waits until more can be read, and adds it to what was read.
-    fn read_more(&mut self, rt: &HostRuntime) -> Result<(), Loss> {
+    fn read_more(&mut self, rt: &HostRuntime) -> Result<(), &'static str> {
         let mut buffer = Vec::new(rt.alloc());
         if buffer.resize(AT_ONCE, 0u8).is_err() {
-            return Err(Loss::OutOfMemory);
+            return Err(OUT_OF_MEMORY);
         }
         let count = match self.replies.read(buffer.as_mut_slice()) {
             Ok(count) => count,
             Err(error) if error.kind() == ErrorKind::Interrupted => return Ok(()),
-            Err(_) => return Err(Loss::Ended),
+            Err(_) => return Err(ENDED),
         };
         if count == 0 {
-            return Err(Loss::Ended);
+            return Err(ENDED);
         }
         match self.pending.extend_from_slice(&buffer[..count]) {
             Ok(()) => Ok(()),
-            Err(_) => Err(Loss::OutOfMemory),
+            Err(_) => Err(OUT_OF_MEMORY),
         }
     }
 }

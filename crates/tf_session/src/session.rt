@@ -1,23 +1,19 @@
 //! The calls of an apply with providers outside the program.
 
-ghost use Rattle.std.specs.Prelude.{◌≡◌, ◌⊎◌, ◌∷◌, [], All, IfOk, OnOk, false, is_some, length, map, replicate, true};
+ghost use Rattle.std.specs.Prelude.{◌≡◌, ◌⊎◌, ◌∷◌, ◌||◌, [], All, IfOk, OnOk, false, is_some, length, map, replicate, true};
 ghost use Rattle.tf_provider_protocol.specs.Meaning.{asked};
 ghost use Rattle.tf_provider_remote.specs.Flights.{next_provider};
-ghost use Rattle.tf_session.specs.Calls.{Continues, IsMade, IsNoted, IsTakenUp, calls_taken_up};
+ghost use Rattle.tf_session.specs.Calls.{Continues, IsMade, IsNoted, IsTakenUp, calls_taken_up, is_closed};
 
 use crate::calls::Calls;
-use crate::pipes::{Loss, Pipe};
+use crate::closing::{Announcement, ApplyLog, Closing, announce};
+use crate::pipes::{Loss, Pipe, Received, log_reply, place_of, receive_from, send_line};
 use std::alloc::{AllocError, Global};
-use std::fs;
-use std::fs::File;
 use std::io::Write;
-use tf_cli_files::{ApplyEvents, LogSink, ProgramInput};
+use tf_cli_files::{ApplyEvents, ProgramInput};
 use tf_provider::{Provider, Reply, Request, first_provider};
-use tf_provider_log::{Announced, LogEntry, OpenLog};
-use tf_provider_remote::{Flight, Flights, RemoteTypes, Response, Responses, Unsent, request_line};
-
-/// The log of an apply.
-pub type ApplyLog = OpenLog<LogSink<File>>;
+use tf_provider_log::{Announced, LogEntry};
+use tf_provider_remote::{Flight, Flights, RemoteTypes, Response, Unsent, request_line};
 
 /// The calls of an apply: what the log has, what is in flight, and the pipes.
 #[derive(Drop)]
@@ -30,8 +26,8 @@ pub struct Session {
     pipes: Vec<Pipe>,
     /// Which providers are lost.
     lost: Vec<bool>,
-    /// Whether nothing more is begun.
-    is_closed: bool,
+    /// Why nothing more is begun, or `None` as long as more is.
+    closing: Option<Closing>,
     /// The number of the next request.
     next_id: u64,
     /// How many requests may be in flight.
@@ -56,7 +52,7 @@ impl Session {
     ) -> Result<Session, AllocError>
         ensures types { IfOk result (λ session. session.types ≡ types) }
         ensures none { IfOk result (λ session. calls_taken_up session.calls ≡ []) }
-        ensures open { IfOk result (λ session. session.is_closed ≡ false) }
+        ensures open { IfOk result (λ session. is_closed session ≡ false) }
         ensures none_lost { IfOk result (λ session. session.lost.items ≡ replicate (length pipes.items) false) }
     {
         let mut lost = Vec::new(alloc);
@@ -68,7 +64,7 @@ impl Session {
             calls: Calls::new(alloc),
             pipes,
             lost,
-            is_closed: false,
+            closing: None,
             next_id: 1,
             most,
             events,
@@ -94,6 +90,14 @@ impl Session {
         ensures { result.now ≡ self.now.calls.flights }
     {
         &self.calls.flights
+    }
+
+    /// Returns whether nothing more was begun because the file exists that stops an apply.
+    pub fn is_stopped(&self) -> bool {
+        match &self.closing {
+            Some(closing) => closing.is_stop(),
+            None => false,
+        }
     }
 
     /// Returns whether a reply can come: a request is in flight whose provider isn't lost.
@@ -146,8 +150,8 @@ impl Session {
         ensures taken_up { OnOk result (All (λ r. IsTakenUp (asked r) self.new) requests.items) }
     {
         for request in requests {
-            self.heed_stop_file(rt, given);
-            if self.is_closed {
+            self.close(Closing::by_stop_file(rt, &given.options.stop_file));
+            if self.closing.is_some() {
                 return Ok(());
             }
             self.make(rt, log, providers, given, request, err)?;
@@ -155,12 +159,14 @@ impl Session {
         Ok(())
     }
 
-    /// Begins nothing more if the options name a file that stops an apply, and it exists.
-    fn heed_stop_file(&mut self, rt: &HostRuntime, given: &ProgramInput)
-        ensures same { (self.new.types ≡ self.old.types) × (self.new.calls ≡ self.old.calls) }
-        ensures closed { self.old.is_closed ≡ true → self.new.is_closed ≡ true }
+    /// Begins nothing more if this is the evidence for that. The first reason counts.
+    fn close(&mut self, closing: Option<Closing>)
+        ensures same { (self.new.types ≡ self.old.types) × (self.new.calls ≡ self.old.calls) × (self.new.lost ≡ self.old.lost) }
+        ensures closed { is_closed self.new ≡ (is_closed self.old || is_some closing) }
     {
-        self.is_closed |= is_stopped(rt, &given.options.stop_file);
+        if self.closing.is_none() {
+            self.closing = closing;
+        }
     }
 
     /// Makes a call, unless it is begun already. If it is of a provider outside the program, it may first wait for others.
@@ -203,7 +209,7 @@ impl Session {
             Some(provider) => provider.apply(&request),
             None => Reply::NoMemory,
         };
-        self.is_closed |= log.is_lost();
+        self.close(Closing::by_log(log));
         self.calls.answer(request, reply)
     }
 
@@ -227,7 +233,7 @@ impl Session {
             Err(Unsent::Unfit) => return self.calls.answer(request, Reply::NoMemory),
         };
         self.make_room(rt, log, folders, line.len(), err)?;
-        if self.is_closed {
+        if self.closing.is_some() {
             return Ok(());
         }
         if self.calls.has_begun(&request) {
@@ -255,7 +261,7 @@ impl Session {
         ensures { OnOk result (Continues [] self.old self.new) }
     {
         for _ in 0..u64::MAX {
-            if self.is_closed || self.has_room(size) {
+            if self.closing.is_some() || self.has_room(size) {
                 break;
             }
             self.flush(rt.alloc(), log, folders, err)?;
@@ -284,17 +290,17 @@ impl Session {
         err: &mut E,
     ) -> Result<(), AllocError>
         ensures continues { OnOk result (Continues [] self.old self.new) }
-        ensures sent { OnOk result ((self.new.is_closed ≡ true) ⊎ (self.new.calls.waiting.flights.items ≡ [])) }
+        ensures sent { OnOk result ((is_closed self.new ≡ true) ⊎ (self.new.calls.waiting.flights.items ≡ [])) }
     {
-        if self.is_closed || self.calls.waiting.is_empty() {
+        if self.closing.is_some() || self.calls.waiting.is_empty() {
             return Ok(());
         }
         let mut waiting = self.calls.take_waiting(alloc);
         self.calls.reserve(waiting.len())?;
-        let announced = announced(alloc, log, waiting.as_slice());
+        let Announcement { announced, closing } = announce(alloc, log, waiting.as_slice());
         let count = announced.len();
         self.write_all(folders, announced, waiting.as_slice(), err);
-        self.is_closed |= count < waiting.len();
+        self.close(closing);
         waiting.truncate(count);
         self.calls.add_sent(waiting);
         Ok(())
@@ -309,7 +315,7 @@ impl Session {
         err: &mut E,
     )
         ensures same { (self.new.types ≡ self.old.types) × (self.new.calls ≡ self.old.calls) }
-        ensures closed { self.old.is_closed ≡ true → self.new.is_closed ≡ true }
+        ensures closed { is_closed self.old ≡ true → is_closed self.new ≡ true }
     {
         for (announced, flight) in announced.into_iter().zip(waiting) {
             self.write(folders, announced, flight, err);
@@ -325,18 +331,15 @@ impl Session {
         err: &mut E,
     )
         ensures same { (self.new.types ≡ self.old.types) × (self.new.calls ≡ self.old.calls) }
-        ensures closed { self.old.is_closed ≡ true → self.new.is_closed ≡ true }
+        ensures closed { is_closed self.old ≡ true → is_closed self.new ≡ true }
     {
         if self.lost.get(flight.provider) == Some(&true) {
             return;
         }
         self.events.begin(&flight.request);
-        let sent = match self.pipes.get_mut(flight.provider) {
-            Some(pipe) => pipe.send(announced, flight.line.as_str()),
-            None => Err(Loss::Unwritten),
-        };
-        if let Err(loss) = sent {
-            self.lose(folders, flight.provider, loss, err);
+        let line = flight.line.as_str();
+        if let Err(loss) = send_line(&mut self.pipes, flight.provider, announced, line) {
+            self.lose(folders, loss, err);
         }
     }
 
@@ -353,14 +356,10 @@ impl Session {
         let Some(provider) = self.calls.flights.next_provider(&self.lost) else {
             return Ok(());
         };
-        let received = match self.pipes.get_mut(provider) {
-            Some(pipe) => pipe.receive(rt),
-            None => return Ok(()),
-        };
-        match received {
-            Ok(responses) => self.take_all(rt.alloc(), log, folders, provider, responses, err),
+        match receive_from(rt, &mut self.pipes, provider) {
+            Ok(received) => self.take_all(rt.alloc(), log, folders, provider, received, err),
             Err(loss) => {
-                self.lose(folders, provider, loss, err);
+                self.lose(folders, loss, err);
                 Ok(())
             }
         }
@@ -373,17 +372,17 @@ impl Session {
         log: &ApplyLog,
         folders: &[String],
         provider: usize,
-        responses: Responses,
+        received: Received,
         err: &mut E,
     ) -> Result<(), AllocError>
         ensures { OnOk result (Continues [] self.old self.new) }
     {
-        let is_faulty = responses.is_faulty;
-        for response in responses.replies {
+        let Received { replies, loss } = received;
+        for response in replies {
             self.take(alloc, log, folders, provider, response, err)?;
         }
-        if is_faulty {
-            self.lose(folders, provider, Loss::NotAReply, err);
+        if let Some(loss) = loss {
+            self.lose(folders, loss, err);
         }
         Ok(())
     }
@@ -405,27 +404,33 @@ impl Session {
             return Ok(());
         }
         let Response { id, reply } = response;
-        let Some(place) = self.calls.flights.place_of(provider, id) else {
-            self.lose(folders, provider, Loss::Unasked, err);
-            return Ok(());
+        let place = match place_of(&self.calls.flights, provider, id) {
+            Ok(place) => place,
+            Err(loss) => {
+                self.lose(folders, loss, err);
+                return Ok(());
+            }
         };
         let flight = &self.calls.flights.list()[place];
-        let is_logged = log.receive(alloc, &flight.request, &reply).is_ok();
-        if !is_logged && !log.is_lost() {
-            self.lose(folders, provider, Loss::TooDeep, err);
-            return Ok(());
-        }
+        let closing = match log_reply(alloc, log, provider, &flight.request, &reply) {
+            Ok(closing) => closing,
+            Err(loss) => {
+                self.lose(folders, loss, err);
+                return Ok(());
+            }
+        };
         self.events.end(&flight.request, &reply, None);
-        self.is_closed |= !is_logged;
+        self.close(closing);
         self.calls.end_at(place, reply)
     }
 
     /// Notes that a provider is lost, and prints why. Nothing more is begun.
-    fn lose<E: Write>(&mut self, folders: &[String], provider: usize, loss: Loss, err: &mut E)
+    fn lose<E: Write>(&mut self, folders: &[String], loss: Loss, err: &mut E)
         ensures same { (self.new.types ≡ self.old.types) × (self.new.calls ≡ self.old.calls) }
-        ensures closed { self.new.is_closed ≡ true }
+        ensures closed { is_closed self.new ≡ true }
     {
-        self.is_closed = true;
+        self.close(Some(Closing::by_loss(&loss)));
+        let provider = loss.provider();
         if let Some(lost) = self.lost.get_mut(provider) {
             if *lost {
                 return;
@@ -433,33 +438,7 @@ impl Session {
             *lost = true;
         }
         if let Some(folder) = folders.get(provider) {
-            let _ = writeln!(err, "error: provider {folder}: {}", loss.text());
+            let _ = writeln!(err, "error: provider {folder}: {}", loss.reason());
         }
-    }
-}
-
-/// Writes that requests are begun, and syncs the log once. Returns the evidence for the first of them, up to one that the log can't
-/// say is begun.
-fn announced<'a>(alloc: Global, log: &ApplyLog, waiting: &'a [Flight]) -> Vec<Announced<'a>> {
-    let mut written = Vec::new(alloc);
-    for flight in waiting {
-        let Ok(line) = log.write_begun(alloc, &flight.request) else {
-            break;
-        };
-        if written.push(line).is_err() {
-            break;
-        }
-    }
-    match log.announce(alloc, written) {
-        Ok(announced) => announced,
-        Err(_) => Vec::new(alloc),
-    }
-}
-
-/// Returns whether the file that stops an apply is named and exists.
-fn is_stopped(rt: &HostRuntime, name: &Option<String>) -> bool {
-    match name {
-        Some(name) => fs::metadata(rt, name.as_str()).is_ok(),
-        None => false,
     }
 }

@@ -11,8 +11,8 @@ returns-in-Err-Unfit-clause-continues g c = continues_by _ c.answer.result _ _ r
 pub returns-in-Err-Unfit-clause-taken_up : goal.returns-in-Err-Unfit-clause-taken_up
 returns-in-Err-Unfit-clause-taken_up g c = taken_answered _ _ c.answer.result c.args.request _ c.answer.new.self c.args.self.now.calls.entries.items c.answer.ensures.answered
 
-pub returns-then-self-clause-continues : goal.returns-then-self-clause-continues
-returns-then-self-clause-continues g c = continues_with _ _ _ c.in_ok-make_room.ensures
+pub returns-then-is_some-clause-continues : goal.returns-then-is_some-clause-continues
+returns-then-is_some-clause-continues g c = continues_with _ _ _ c.in_ok-make_room.ensures
 
 pub returns-then-has_begun-clause-continues : goal.returns-then-has_begun-clause-continues
 returns-then-has_begun-clause-continues g c = continues_with _ _ _ c.in_ok-make_room.ensures
