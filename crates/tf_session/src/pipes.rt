@@ -1,6 +1,8 @@
 //! The two pipes of each provider outside the program.
 
-ghost use Rattle.std.specs.Prelude.{◌≡◌, ◌<◌, IfOk, length, slice_index_or};
+ghost use Rattle.std.specs.List.{list_any};
+ghost use Rattle.std.specs.Prelude.{◌≡◌, ◌<◌, IfSome, MatchResult, false, length, slice_index_or, ⊤};
+ghost use Rattle.tf_provider_remote.specs.Flights.{is_numbered};
 ghost use Rattle.tf_provider_remote.specs.declared.flights.Flight.{Flight};
 
 use crate::closing::{ApplyLog, Closing};
@@ -46,7 +48,9 @@ pub(crate) struct Loss {
 
 impl Loss {
     /// Returns the number of the provider.
-    pub(crate) fn provider(&self) -> usize {
+    pub(crate) fn provider(&self) -> usize
+        ensures { result ≡ self.now.provider }
+    {
         self.provider
     }
 
@@ -74,7 +78,9 @@ pub(crate) fn send_line(
     provider: usize,
     announced: Announced<'_>,
     line: &str,
-) -> Result<(), Loss> {
+) -> Result<(), Loss>
+    ensures { MatchResult result (λ _. ⊤) (λ loss. loss.provider ≡ provider) }
+{
     let is_sent = match pipes.get_mut(provider) {
         Some(pipe) => pipe.send(announced, line),
         None => false,
@@ -98,7 +104,9 @@ pub(crate) fn receive_from(
     rt: &HostRuntime,
     pipes: &mut [Pipe],
     provider: usize,
-) -> Result<Received, Loss> {
+) -> Result<Received, Loss>
+    ensures { MatchResult result (λ received. IfSome received.loss (λ loss. loss.provider ≡ provider)) (λ loss. loss.provider ≡ provider) }
+{
     let received = match pipes.get_mut(provider) {
         Some(pipe) => pipe.receive(rt),
         None => Err(ENDED),
@@ -125,7 +133,9 @@ pub(crate) fn receive_from(
 ///
 /// Fails if no such request is in flight.
 pub(crate) fn place_of(flights: &Flights, provider: usize, id: u64) -> Result<usize, Loss>
-    ensures { IfOk result (λ place. (place < length flights.now.flights.items) × ((d : Flight) → ((slice_index_or flights.now.flights.items place d).id ≡ id) × ((slice_index_or flights.now.flights.items place d).provider ≡ provider))) }
+    ensures { MatchResult result
+        (λ place. (place < length flights.now.flights.items) × ((d : Flight) → ((slice_index_or flights.now.flights.items place d).id ≡ id) × ((slice_index_or flights.now.flights.items place d).provider ≡ provider)))
+        (λ loss. (loss.provider ≡ provider) × (list_any (is_numbered provider id) flights.now.flights.items ≡ false)) }
 {
     match flights.place_of(provider, id) {
         Some(place) => Ok(place),
@@ -147,7 +157,9 @@ pub(crate) fn log_reply(
     provider: usize,
     request: &Request,
     reply: &Reply,
-) -> Result<Option<Closing>, Loss> {
+) -> Result<Option<Closing>, Loss>
+    ensures { MatchResult result (λ _. ⊤) (λ loss. loss.provider ≡ provider) }
+{
     if log.receive(alloc, request, reply).is_ok() {
         return Ok(None);
     }
