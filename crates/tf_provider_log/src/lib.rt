@@ -35,14 +35,14 @@ pub use forms::op_word;
 pub use laws::beginnings_are_read;
 pub use logged::Logged;
 pub use open_log::{NotStarted, OpenLog};
-pub use outside::{Announced, BegunLine};
+pub use outside::{Announced, BegunLine, LoggedReply, Message, Unfit};
 pub use parts::text_from;
 pub use reading::{next_line, read_log, read_tree};
 pub use replay_laws::{
     beginnings_of_logs_are_true, replayed_providers_are_themselves, same_requests_are_one,
 };
 pub use replaying::Replayed;
-pub use same::is_same_text;
+pub use same::{is_same, is_same_text};
 pub use shared::providers_are_shared;
 pub use sink::{Durability, NotAdded, Sink};
 pub use writing::{answered_line, begun_line, header_line};

@@ -10,7 +10,7 @@ use tf_provider_protocol::Request;
 use tf_value_data::Value;
 
 /// Returns whether two requests have the same operation on the same object, with the same prior and requested object.
-pub(crate) fn is_same(one: &Request, other: &Request) -> bool
+pub fn is_same(one: &Request, other: &Request) -> bool
     ensures { result ≡ is_same (asked one.now) (asked other.now) }
 {
     one.op == other.op

@@ -6,7 +6,7 @@ ghost use Rattle.tf_provider_protocol.specs.Meaning.{asked};
 ghost use Rattle.tf_provider_remote.specs.Flights.{has_call, is_call, is_numbered, next_provider};
 
 use std::alloc::{AllocError, Global};
-use tf_provider_log::is_same_text;
+use tf_provider_log::{Message, is_same_text};
 use tf_provider_protocol::Request;
 
 /// A request that was sent and has no reply yet.
@@ -20,6 +20,15 @@ pub struct Flight {
     pub line: String,
     /// The request.
     pub request: Request,
+}
+
+/// A provider is sent the line of a flight, for its request.
+impl Message for Flight {
+    ghost request_of = { λ flight. flight.request };
+
+    fn request(&self) -> &Request {
+        &self.request
+    }
 }
 
 /// The requests that were sent and that have no reply yet, in the order in which they were sent.
@@ -125,12 +134,13 @@ impl Flights {
         Ok(())
     }
 
-    /// Adds requests at the end, for which there has to be memory (`reserve`).
-    pub fn append(&mut self, mut more: Vec<Flight>)
-        requires { length self.old.flights.items + length more.items ≤ vec_capacity self.old.flights }
-        ensures { self.new.flights.items ≡ self.old.flights.items ++ more.items }
+    /// Adds a request at the end, for which there has to be memory (`reserve`).
+    pub fn add_reserved(&mut self, flight: Flight)
+        requires { length self.old.flights.items < vec_capacity self.old.flights }
+        ensures added { self.new.flights.items ≡ self.old.flights.items ++ flight ∷ [] }
+        ensures capacity { vec_capacity self.old.flights ≤ vec_capacity self.new.flights }
     {
-        if self.flights.append(&mut more).is_err() {
+        if self.flights.push(flight).is_err() {
             unreachable!();
         }
     }

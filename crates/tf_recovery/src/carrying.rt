@@ -21,7 +21,7 @@ use tf_cli_program::{ask_for_results, end_apply};
 use tf_plan_data::Planned;
 use tf_provider::Provider;
 use tf_provider_remote::RemoteTypes;
-use tf_session::{ApplyLog, Session};
+use tf_session::{ApplyContext, ApplyLog, Session};
 use tf_walk_requests::PlanProgress;
 
 /// Applies what was given, whose plan this is: makes the calls of its actions, each once the actions before it ended well, until no
@@ -45,19 +45,26 @@ pub(crate) fn carried_out<T: Wait, E: Write>(
     ensures no_reply { OnOk result (next_provider session.new.lost.items session.new.calls.flights.flights.items ≡ None) }
 {
     let alloc = rt.alloc();
+    let context = ApplyContext {
+        rt,
+        log,
+        providers,
+        given,
+    };
     let mut progress = PlanProgress::new(alloc, planned.plan.actions.len())?;
     for _ in threads.forever() {
         let requests = progress.next_requests(alloc, planned, providers, session.entries())?;
         if requests.is_empty() && !session.awaits_reply() {
             return apply_over_log(rt, given, session.types(), session.entries());
         }
-        session.serve(rt, log, providers, given, requests, err)?;
+        session.serve(context, requests, err)?;
     }
     unreachable!()
 }
 
-/// Ends an apply: prints whether it was stopped and what follows the plan's text, writes the state if it changed, and empties the log. If requests are still in
-/// flight, prints these and how to go on; the state and the log then stay as they are, unless the log lacks a reply.
+/// Ends an apply: prints what follows the plan's text, writes the state if it changed, and empties the log. Warns if the apply was
+/// stopped. If requests are still in flight, prints these and how to go on; the state and the log then stay as they are, unless the
+/// log lacks a reply.
 pub(crate) fn finish<O: Write, E: Write>(
     rt: &HostRuntime,
     place: &Place,

@@ -2,7 +2,7 @@
 use Rattle.std.proofs.Common.{◌≡◌, ◌≤◌, ◌<◌, ◌∙◌, ◌++◌, ◌⊎◌, ◌||◌, ◌∷◌, [], ℕ, Bool, List, ap, arith, drop, false, inl, inr, length, map, nat_lt, refl, subst, sym, take, true}
 use Rattle.std.proofs.Math.Seq.{take-append_seam}
 use Rattle.std.proofs.lemmas.Bool.{cases_lt, lt-ltb}
-use Rattle.std.proofs.lemmas.List.{append-nil, length-take, map-append, take-append-drop, take-append-le, take_all}
+use Rattle.std.proofs.lemmas.List.{append_assoc, append-nil, length-map, length-take, map-append, take-append-drop, take-append-le, take_all}
 use Rattle.std.proofs.lemmas.List.Elements.{Contains-append_cases, Contains-append_left, Contains-append_right, Contains-push, Contains-push_cases}
 use Rattle.std.proofs.lemmas.List.Sorted.{Contains-permutation, IsPermutation-map, IsPermutation-remove}
 use Rattle.std.specs.List.{Contains, remove}
@@ -64,6 +64,15 @@ moved f g xs i x zs z q within is same h =
       | inr there ↦ Contains-append_right (map f (remove xs i)) (map g (zs ++ z ∷ [])) q (subst (λ l. Contains l q) (sym more) (Contains-append_left (map g zs) (f x ∷ []) q there))
     ]
 
+-- a list that is another one and more begins with that
+pub begins_with : {X Y : Type 0} (f : X → Y) (xs : List X) (all rest : List Y) → all ≡ map f xs ++ rest → map f xs ≡ take (length xs) all
+begins_with f xs all rest e = sym (ap (take (length xs)) e ∙ ap (λ n. take n (map f xs ++ rest)) (sym (length-map xs f)) ∙ take-append_seam (map f xs) rest)
+
+-- one item more is taken from the rest
+pub one_more_first : {X Y : Type 0} (f : X → Y) (xs more : List X) (x : X) (y : Y) (all rest left : List Y) → all ≡ map f xs ++ rest → rest ≡ y ∷ left → more ≡ xs ++ x ∷ [] → f x ≡ y → all ≡ map f more ++ left
+one_more_first f xs more x y all rest left e cons longer same =
+    e ∙ ap (λ r. map f xs ++ r) cons ∙ sym (append_assoc (map f xs) (y ∷ []) left) ∙ ap (λ z. (map f xs ++ z ∷ []) ++ left) (sym same) ∙ ap (λ l. l ++ left) (sym (ap (map f) longer ∙ map-append f xs (x ∷ [])))
+
 -- a list begins with a second one, if it begins with one that begins with that
 begins_then : {X : Type 0} (xs ys zs : List X) → take (length xs) ys ≡ xs → take (length ys) zs ≡ ys → take (length xs) zs ≡ xs
 begins_then xs ys zs a b =
@@ -101,7 +110,7 @@ kept_same c d f e = record {
 pub kept_sent : (c d : Calls) (more : List Flight) → d.flights.flights.items ≡ c.flights.flights.items ++ more → d.entries.items ≡ c.entries.items → AreKept c d
 kept_sent c d more f e = record {
   made = λ q h. rw (f, e) (more_left (λ (f : Flight). asked f.request) c.flights.flights.items more (map (λ e. request_in (log_entry_of e)) c.entries.items) q h);
-  ended = (kept_same c record { waiting = d.waiting; flights = c.flights; entries = d.entries } refl e).ended;
+  ended = ap (take (length c.entries.items)) (e ∙ sym (append-nil c.entries.items)) ∙ take-append_seam c.entries.items [];
 }
 
 -- calls are kept if one more has ended
@@ -158,7 +167,7 @@ all_sent was count ws fs es q h =
     ]
 
 -- the calls of a session after its requests that waited were sent
-pub begun_sent : (c d : Calls) (was : Bool) (count : ℕ) → d.waiting.flights.items ≡ [] → d.flights.flights.items ≡ c.flights.flights.items ++ take count c.waiting.flights.items → d.entries ≡ c.entries
+pub begun_sent : (c d : Calls) (was : Bool) (count : ℕ) → d.waiting.flights.items ≡ [] → d.flights.flights.items ≡ c.flights.flights.items ++ take count c.waiting.flights.items → d.entries.items ≡ c.entries.items
     → (q : Asked) → Contains (calls_taken_up c) q → ((was || nat_lt count (length c.waiting.flights.items)) ≡ true) ⊎ Contains (calls_taken_up d) q
 begun_sent c d was count none flights entries q h = rw (none, flights, entries) (all_sent was count c.waiting.flights.items c.flights.flights.items (map (λ e. request_in (log_entry_of e)) c.entries.items) q h)
 
@@ -173,16 +182,14 @@ continues_same qs a b (types, calls) closed = record {
 }
 
 -- a session continues if it has the same types, keeps its calls, takes up no others but these, and the same requests wait
-pub continues_by : {A E : Type 0} (qs : List Asked) (r : Result A E) (a b : Session) → b.types ≡ a.types → (is_closed a ≡ true → is_closed b ≡ true) → b.calls.waiting ≡ a.calls.waiting → AreKept a.calls b.calls → TakesUpOnly qs a.calls b.calls
-    → OnOk r (Continues qs a b)
-continues_by qs (Ok v) a b types closed waiting calls only = record {
+pub continues_calls : (qs : List Asked) (a b : Session) → b.types ≡ a.types → (is_closed a ≡ true → is_closed b ≡ true) → b.calls.waiting ≡ a.calls.waiting → AreKept a.calls b.calls → TakesUpOnly qs a.calls b.calls → Continues qs a b
+continues_calls qs a b types closed waiting calls only = record {
   types = types;
   calls = calls;
   closed = closed;
   taken_up = λ q h. inr (begun_kept a.calls b.calls (ap (λ (w : Flights). w.flights.items) waiting) calls q h);
   only = only;
 }
-continues_by qs (Err e) a b types closed waiting calls only = tt
 
 -- a session continues if one request more waits
 pub continues_waits : {A E : Type 0} (r : Result A E) (a b : Session) (f : Flight) → (b.types ≡ a.types) × (is_closed b ≡ is_closed a) → (b.calls.flights ≡ a.calls.flights) × (b.calls.entries ≡ a.calls.entries)
@@ -220,26 +227,25 @@ continues_on qs (Ok v) a b c one other = continues_then qs a b c (continues_with
 continues_on qs (Err e) a b c one other = tt
 
 -- the calls of a session after those that waited were sent: they are taken out, there is memory for them, and those that were announced are in flight
-pub flushed : (a b c d e : Calls) (was : Bool) (count n : ℕ) (waited sent : List Flight) → (b.flights ≡ a.flights) × (b.entries ≡ a.entries) → waited ≡ a.waiting.flights.items → b.waiting.flights.items ≡ []
-    → (c.waiting ≡ b.waiting) × (c.entries ≡ b.entries) → c.flights.flights.items ≡ b.flights.flights.items → d ≡ c → n ≡ length waited → sent ≡ take count waited
-    → (e.waiting ≡ d.waiting) × (e.entries ≡ d.entries) → e.flights.flights.items ≡ d.flights.flights.items ++ sent
-    → AreKept a e × ((q : Asked) → Contains (calls_taken_up a) q → ((was || nat_lt count n) ≡ true) ⊎ Contains (calls_taken_up e) q) × TakesUpOnly [] a e
-flushed a b c d e was count n waited sent taken all none reserved same written many cut others added =
-    let entries : e.entries ≡ a.entries = others.1 ∙ ap (λ (x : Calls). x.entries) written ∙ reserved.1 ∙ taken.1 in
-    let waiting : e.waiting.flights.items ≡ [] = ap (λ (w : Flights). w.flights.items) (others.0 ∙ ap (λ (x : Calls). x.waiting) written ∙ reserved.0) ∙ none in
-    let flights : d.flights.flights.items ≡ a.flights.flights.items = ap (λ (x : Calls). x.flights.flights.items) written ∙ same ∙ ap (λ (w : Flights). w.flights.items) taken.0 in
-    let more : e.flights.flights.items ≡ a.flights.flights.items ++ take count a.waiting.flights.items = added ∙ ap (λ fs. fs ++ sent) flights ∙ ap (λ fs. a.flights.flights.items ++ fs) (cut ∙ ap (take count) all) in
+pub flushed : (a b c d : Calls) (was : Bool) (count n : ℕ) (waited sent : List Flight) → (b.flights ≡ a.flights) × (b.entries ≡ a.entries) → waited ≡ a.waiting.flights.items → b.waiting.flights.items ≡ []
+    → c.waiting ≡ b.waiting → (c.flights.flights.items ≡ b.flights.flights.items) × (c.entries.items ≡ b.entries.items) → n ≡ length waited → sent ≡ take count waited
+    → (d.waiting ≡ c.waiting) × (d.entries ≡ c.entries) → d.flights.flights.items ≡ c.flights.flights.items ++ sent
+    → AreKept a d × ((q : Asked) → Contains (calls_taken_up a) q → ((was || nat_lt count n) ≡ true) ⊎ Contains (calls_taken_up d) q) × TakesUpOnly [] a d
+flushed a b c d was count n waited sent taken all none reserved same many cut others added =
+    let entries : d.entries.items ≡ a.entries.items = ap (λ (es : Vec LogEntry Global). es.items) others.1 ∙ same.1 ∙ ap (λ (es : Vec LogEntry Global). es.items) taken.1 in
+    let waiting : d.waiting.flights.items ≡ [] = ap (λ (w : Flights). w.flights.items) (others.0 ∙ reserved) ∙ none in
+    let flights : c.flights.flights.items ≡ a.flights.flights.items = same.0 ∙ ap (λ (w : Flights). w.flights.items) taken.0 in
+    let more : d.flights.flights.items ≡ a.flights.flights.items ++ take count a.waiting.flights.items = added ∙ ap (λ fs. fs ++ sent) flights ∙ ap (λ fs. a.flights.flights.items ++ fs) (cut ∙ ap (take count) all) in
     let as_many : n ≡ length a.waiting.flights.items = many ∙ ap length all in (
-      kept_sent a e (take count a.waiting.flights.items) more (ap (λ (es : Vec LogEntry Global). es.items) entries),
-      (λ q h. rw as_many (begun_sent a e was count waiting more entries q h)),
-      only_sent a e count waiting more entries,
+      kept_sent a d (take count a.waiting.flights.items) more entries,
+      (λ q h. rw as_many (begun_sent a d was count waiting more entries q h)),
+      only_sent a d count waiting more entries,
     )
 
 -- the request at a place, which has a number and was sent to a provider, is the one whose reply is noted
-pub noted_at : {A E : Type 0} (C : Type 0) (r : Result A E) (provider id place : ℕ) (reply : Reply) (c d : Calls) → place < length c.flights.flights.items
+pub noted_at : (C : Type 0) (provider id place : ℕ) (reply : Reply) (c d : Calls) → place < length c.flights.flights.items
     → ((f : Flight) → ((slice_index_or c.flights.flights.items place f).id ≡ id) × ((slice_index_or c.flights.flights.items place f).provider ≡ provider))
-    → OnOk r ((f : Flight) × (f ≡ slice_index_or c.flights.flights.items place f) × (d.entries.items ≡ c.entries.items ++ Answered f.request reply ∷ []))
-    → OnOk r (C ⊎ ((f : Flight) × Contains c.flights.flights.items f × (f.id ≡ id) × (f.provider ≡ provider) × (d.entries.items ≡ c.entries.items ++ Answered f.request reply ∷ [])))
-noted_at C (Ok v) provider id place reply c d within sent (f, is, entries) =
+    → (f : Flight) × (f ≡ slice_index_or c.flights.flights.items place f) × (d.entries.items ≡ c.entries.items ++ Answered f.request reply ∷ [])
+    → C ⊎ ((f : Flight) × Contains c.flights.flights.items f × (f.id ≡ id) × (f.provider ≡ provider) × (d.entries.items ≡ c.entries.items ++ Answered f.request reply ∷ []))
+noted_at C provider id place reply c d within sent (f, is, entries) =
     inr (f, (place, within, sym is), ap (λ (x : Flight). x.id) is ∙ (sent f).0, ap (λ (x : Flight). x.provider) is ∙ (sent f).1, entries)
-noted_at C (Err e) provider id place reply c d within sent holds = tt

@@ -82,7 +82,7 @@ pub only_waits : (c d : Calls) (f : Flight) → d.waiting.flights.items ≡ c.wa
 only_waits c d f waits flights entries = record { each = λ q h. one_left (λ (f : Flight). asked f.request) c.waiting.flights.items f (calls_made c) q (rw (← waits, ← flights, ← entries) h) }
 
 -- requests that waited are in flight
-pub only_sent : (c d : Calls) (count : ℕ) → d.waiting.flights.items ≡ [] → d.flights.flights.items ≡ c.flights.flights.items ++ take count c.waiting.flights.items → d.entries ≡ c.entries → TakesUpOnly [] c d
+pub only_sent : (c d : Calls) (count : ℕ) → d.waiting.flights.items ≡ [] → d.flights.flights.items ≡ c.flights.flights.items ++ take count c.waiting.flights.items → d.entries.items ≡ c.entries.items → TakesUpOnly [] c d
 only_sent c d count none flights entries = record {
   each = λ q h.
       inl (sent_back (λ (f : Flight). asked f.request) c.waiting.flights.items c.flights.flights.items count (map (λ e. request_in (log_entry_of e)) c.entries.items) q

@@ -1,6 +1,7 @@
 -- The calls of an apply with providers outside the program.
 use Rattle.std.specs.List.{Contains, list_any}
-use Rattle.std.specs.Prelude.{◌≡◌, ◌||◌, ◌++◌, ◌∷◌, ◌⊎◌, [], Bool, ℕ, List, Some, is_some, length, map, slice_get, take, true}
+use Rattle.std.specs.Option.{option_map_or}
+use Rattle.std.specs.Prelude.{◌≡◌, ◌+◌, ◌≤◌, ◌||◌, ◌++◌, ◌∷◌, ◌⊎◌, [], Bool, ℕ, List, Some, false, is_some, length, map, slice_get, take, true, vec_capacity}
 use Rattle.tf_provider_log.specs.LogEntry.{LogEntryView, begun, log_entry_of, replied}
 use Rattle.tf_provider_log.specs.Replayed.{is_about}
 use Rattle.tf_provider_log.specs.declared.entry.LogEntry.TheVariants.{Answered}
@@ -28,9 +29,18 @@ calls_made c = map (λ f. asked f.request) c.flights.flights.items ++ map (λ e.
 abbrev pub calls_taken_up : Calls → List Asked
 calls_taken_up c = map (λ f. asked f.request) c.waiting.flights.items ++ calls_made c
 
+-- there is memory for some more requests in flight, and for the replies to these and to those that are in flight
+pub record HasRoomFor (n : ℕ) (c : Calls) : Type 0 where
+  pub flights : length c.flights.flights.items + n ≤ vec_capacity c.flights.flights
+  pub replies : length c.flights.flights.items + length c.entries.items + n ≤ vec_capacity c.entries
+
 -- nothing more is begun
 abbrev pub is_closed : Session → Bool
 is_closed s = is_some s.closing
+
+-- the first reason to begin nothing more is the file that stops an apply
+abbrev pub is_stopped : Session → Bool
+is_stopped s = option_map_or (λ c. c.is_stop) s.closing false
 
 -- No call is forgotten: each call that was made is in flight or has ended, and each call that had ended still has its reply.
 pub record AreKept (old new : Calls) : Type 0 where

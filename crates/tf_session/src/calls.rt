@@ -1,29 +1,34 @@
 //! The calls of a session: those that wait, those in flight, and those that ended.
 
-ghost use Rattle.std.specs.Prelude.{◌≡◌, ◌+◌, ◌<◌, ◌≤◌, ◌++◌, ◌∷◌, [], IsOk, MatchResult, OnOk, false, length, map, slice_index_or, vec_capacity};
-ghost use Rattle.tf_provider_log.specs.declared.entry.LogEntry.TheVariants.{Answered};
-ghost use Rattle.tf_provider_protocol.specs.Meaning.{asked};
-ghost use Rattle.tf_provider_remote.specs.declared.flights.Flight.{Flight};
-ghost use Rattle.tf_session.specs.Calls.{AreKept, TakesUpOnly, has_begun};
+ghost use Rattle.std.specs.Prelude.{◌≡◌, ◌+◌, ◌<◌, ◌≤◌, ◌++◌, ◌∷◌, [], length, vec_capacity};
 
+use crate::closing::NotStopped;
+use crate::pipes::Sent;
 use std::alloc::{AllocError, Global};
 use std::mem;
-use tf_provider_log::{LogEntry, is_begun};
+use tf_provider_log::{LogEntry, LoggedReply, is_begun};
 use tf_provider_protocol::{Reply, Request};
 use tf_provider_remote::{Flight, Flights};
 
-/// The calls of a session.
+/// The calls of a session. There is always memory for the replies to the requests in flight.
 #[derive(Drop)]
 pub(crate) struct Calls {
     /// What is sent together, after the next sync of the log. The log doesn't have it yet.
-    pub(crate) waiting: Flights,
+    waiting: Flights,
     /// What was sent and has no reply yet.
-    pub(crate) flights: Flights,
+    flights: Flights,
     /// The calls that ended, with their replies.
-    pub(crate) entries: Vec<LogEntry>,
+    entries: Vec<LogEntry>,
+    ghost has_room: { length flights.flights.items + length entries.items ≤ vec_capacity entries },
 }
 
 impl Calls {
+    ghost use Rattle.std.specs.Prelude.{◌==◌, MatchResult, OnOk, false, slice_index_or};
+    ghost use Rattle.tf_provider_log.specs.declared.entry.LogEntry.TheVariants.{Answered};
+    ghost use Rattle.tf_provider_protocol.specs.Meaning.{asked};
+    ghost use Rattle.tf_provider_remote.specs.declared.flights.Flight.{Flight};
+    ghost use Rattle.tf_session.specs.Calls.{AreKept, HasRoomFor, TakesUpOnly, has_begun};
+
     /// Builds a list without a call.
     pub(crate) fn new(alloc: Global) -> Calls
         ensures { (result.waiting.flights.items ≡ []) × (result.flights.flights.items ≡ []) × (result.entries.items ≡ []) }
@@ -35,6 +40,32 @@ impl Calls {
         }
     }
 
+    /// Returns what was sent and has no reply yet.
+    pub(crate) fn flights(&self) -> &Flights
+        ensures { result.now ≡ self.now.flights }
+    {
+        &self.flights
+    }
+
+    /// Returns the calls that ended, with their replies.
+    pub(crate) fn entries(&self) -> &[LogEntry]
+        ensures { result.now ≡ self.now.entries.items }
+    {
+        self.entries.as_slice()
+    }
+
+    /// Returns whether no request waits.
+    pub(crate) fn none_waits(&self) -> bool
+        ensures { result ≡ (length self.now.waiting.flights.items == 0) }
+    {
+        self.waiting.is_empty()
+    }
+
+    /// Returns whether few enough requests are in flight or wait for a line of this size, if at most `most` may be in flight.
+    pub(crate) fn has_room(&self, most: usize, size: usize) -> bool {
+        self.flights.has_room(&self.waiting, most, size)
+    }
+
     /// Returns whether a request waits, is in flight or has ended.
     pub(crate) fn has_begun(&self, request: &Request) -> bool
         ensures { result ≡ has_begun (asked request.now) self.now }
@@ -44,7 +75,11 @@ impl Calls {
 
     /// Has a request wait for the next sync of the log. It is neither in flight nor ended, and doesn't wait yet, so it wasn't sent
     /// before.
-    pub(crate) fn wait(&mut self, flight: Flight) -> Result<(), AllocError>
+    pub(crate) fn wait(
+        &mut self,
+        flight: Flight,
+        _not_stopped: NotStopped,
+    ) -> Result<(), AllocError>
         requires { has_begun (asked flight.request) self.old ≡ false }
         ensures others { (self.new.flights ≡ self.old.flights) × (self.new.entries ≡ self.old.entries) }
         ensures waits { OnOk result (self.new.waiting.flights.items ≡ self.old.waiting.flights.items ++ flight ∷ []) }
@@ -61,46 +96,47 @@ impl Calls {
         mem::replace(&mut self.waiting, Flights::new(alloc)).into_list()
     }
 
-    /// Takes memory for more requests in flight, so that adding as many doesn't fail.
+    /// Takes memory for more requests in flight and for their replies, so that adding as many doesn't fail.
     ///
     /// # Errors
     ///
     /// Fails only if memory runs out.
     pub(crate) fn reserve(&mut self, additional: usize) -> Result<(), AllocError>
-        ensures others { (self.new.waiting ≡ self.old.waiting) × (self.new.entries ≡ self.old.entries) }
-        ensures same { self.new.flights.flights.items ≡ self.old.flights.flights.items }
-        ensures room { OnOk result (length self.new.flights.flights.items + additional ≤ vec_capacity self.new.flights.flights) }
+        ensures waiting { self.new.waiting ≡ self.old.waiting }
+        ensures same { (self.new.flights.flights.items ≡ self.old.flights.flights.items) × (self.new.entries.items ≡ self.old.entries.items) }
+        ensures room { OnOk result (HasRoomFor additional self.new) }
     {
+        let Some(replies) = self.flights.len().checked_add(additional) else {
+            return Err(AllocError);
+        };
+        self.entries.reserve(replies)?;
         self.flights.reserve(additional)
     }
 
-    /// Adds requests that were sent to those in flight. There has to be memory for them (`reserve`).
-    pub(crate) fn add_sent(&mut self, sent: Vec<Flight>)
-        requires { length self.old.flights.flights.items + length sent.items ≤ vec_capacity self.old.flights.flights }
+    /// Adds a request that was sent to those in flight. There has to be memory for it (`reserve`).
+    pub(crate) fn add_sent(&mut self, sent: Sent)
+        requires { HasRoomFor 1 self.old }
         ensures others { (self.new.waiting ≡ self.old.waiting) × (self.new.entries ≡ self.old.entries) }
-        ensures sent { self.new.flights.flights.items ≡ self.old.flights.flights.items ++ sent.items }
+        ensures sent { self.new.flights.flights.items ≡ self.old.flights.flights.items ++ sent.flight ∷ [] }
+        ensures room { vec_capacity self.old.flights.flights ≤ vec_capacity self.new.flights.flights }
     {
-        self.flights.append(sent);
+        self.flights.add_reserved(sent.into_flight());
     }
 
-    /// Takes the request at a place of those in flight, and notes its reply.
-    ///
-    /// # Errors
-    ///
-    /// Fails only if memory runs out. Then the request stays in flight.
-    pub(crate) fn end_at(&mut self, place: usize, reply: Reply) -> Result<(), AllocError>
-        requires { place < length self.old.flights.flights.items }
+    /// Takes the request at a place of those in flight, and notes its reply, which the log has.
+    pub(crate) fn end_at(&mut self, place: usize, logged: LoggedReply)
+        requires within { place < length self.old.flights.flights.items }
+        requires request { (f : Flight) → f ≡ slice_index_or self.old.flights.flights.items place f → f.request ≡ logged.request.value }
         ensures waiting { self.new.waiting ≡ self.old.waiting }
         ensures kept { AreKept self.old self.new }
         ensures only { TakesUpOnly [] self.old self.new }
-        ensures noted { OnOk result ((f : Flight) × (f ≡ slice_index_or self.old.flights.flights.items place f) × (self.new.entries.items ≡ self.old.entries.items ++ Answered f.request reply ∷ [])) }
+        ensures noted { (f : Flight) × (f ≡ slice_index_or self.old.flights.flights.items place f) × (self.new.entries.items ≡ self.old.entries.items ++ Answered f.request logged.reply ∷ []) }
     {
-        self.entries.reserve(1)?;
         let flight = self.flights.take(place);
-        self.answer(flight.request, reply)
+        push_reserved(&mut self.entries, logged.into_entry(flight.request));
     }
 
-    /// Notes the reply to a request that isn't in flight.
+    /// Notes the reply to a request that wasn't sent.
     ///
     /// # Errors
     ///
@@ -110,9 +146,23 @@ impl Calls {
         ensures only { TakesUpOnly (asked request ∷ []) self.old self.new }
         ensures others { (self.new.waiting ≡ self.old.waiting) × (self.new.flights ≡ self.old.flights) }
         ensures answered { MatchResult result (λ _. self.new.entries.items ≡ self.old.entries.items ++ Answered request reply ∷ []) (λ _. self.new.entries.items ≡ self.old.entries.items) }
-        ensures succeeds { length self.old.entries.items < vec_capacity self.old.entries → IsOk result }
     {
-        self.entries.push(LogEntry::Answered(request, reply))?;
+        let Some(replies) = self.flights.len().checked_add(1) else {
+            return Err(AllocError);
+        };
+        self.entries.reserve(replies)?;
+        push_reserved(&mut self.entries, LogEntry::Answered(request, reply));
         Ok(())
+    }
+}
+
+/// Adds an entry at the end, for which there has to be memory.
+fn push_reserved(entries: &mut Vec<LogEntry>, entry: LogEntry)
+    requires { length entries.old.items < vec_capacity entries.old }
+    ensures items { entries.new.items ≡ entries.old.items ++ entry ∷ [] }
+    ensures capacity { vec_capacity entries.old ≤ vec_capacity entries.new }
+{
+    if entries.push(entry).is_err() {
+        unreachable!();
     }
 }

@@ -4,6 +4,7 @@
 
 mod calls;
 mod closing;
+mod context;
 mod laws;
 mod own;
 mod pipes;
@@ -14,7 +15,7 @@ mod results;
 mod session;
 mod watched;
 
-pub use closing::ApplyLog;
+pub use context::{ApplyContext, ApplyLog};
 pub use laws::made_calls_have_begun;
 pub use pipes::{Pipe, check_pipes, open_pipes};
 pub use remotes::read_types;

@@ -1,20 +1,22 @@
 //! The two pipes of each provider outside the program.
 
 ghost use Rattle.std.specs.List.{list_any};
-ghost use Rattle.std.specs.Prelude.{◌≡◌, ◌<◌, IfSome, MatchResult, false, length, slice_index_or, ⊤};
+ghost use Rattle.std.specs.Prelude.{◌≡◌, ◌<◌, ◌&&◌, IfErr, IfSome, MatchResult, Some, false, length, slice_get, slice_index_or, true};
+ghost use Rattle.tf_provider_log.specs.Fit.{answer_fits, request_fits};
+ghost use Rattle.tf_provider_protocol.specs.Meaning.{answered, asked};
 ghost use Rattle.tf_provider_remote.specs.Flights.{is_numbered};
 ghost use Rattle.tf_provider_remote.specs.declared.flights.Flight.{Flight};
 
-use crate::closing::{ApplyLog, Closing};
+use crate::context::ApplyLog;
 use crate::remotes::file_in;
 use std::alloc::{AllocError, Global};
 use std::fs::{File, OpenOptions};
 use std::io::{ErrorKind, Read, Write};
 use std::process::ExitCode;
 use std::{fs, io, mem};
-use tf_provider_log::Announced;
+use tf_provider_log::{Announced, LoggedReply};
 use tf_provider_protocol::{Reply, Request};
-use tf_provider_remote::{Flights, Response, Responses, read_replies};
+use tf_provider_remote::{Flight, Flights, Response, Responses, read_replies};
 
 /// The most bytes of a reply's line.
 const MOST_BYTES: usize = 4_194_304;
@@ -60,6 +62,32 @@ impl Loss {
     }
 }
 
+/// A request in flight: its line was written to its provider's pipe once, or the provider is lost. Only the functions here make one.
+pub(crate) struct Sent {
+    flight: Flight,
+}
+
+impl Sent {
+    /// Returns a request that isn't written, because its provider is lost.
+    pub(crate) fn to_lost(announced: Announced<Flight>, lost: &[bool]) -> Sent
+        requires { slice_get lost.now announced.message.provider ≡ Some true }
+        ensures { result.flight ≡ announced.message }
+    {
+        let _ = lost;
+        Sent {
+            flight: announced.into_message(),
+        }
+    }
+
+    /// Returns the request.
+    pub(crate) fn into_flight(self) -> Flight
+        ensures { result ≡ self.flight }
+    {
+        let Sent { flight } = self;
+        flight
+    }
+}
+
 /// The replies of a provider that were read.
 pub(crate) struct Received {
     /// The replies.
@@ -68,31 +96,30 @@ pub(crate) struct Received {
     pub(crate) loss: Option<Loss>,
 }
 
-/// Sends the line of a request to a provider. `Announced` shows that the log on the disk has the request as begun.
-///
-/// # Errors
-///
-/// Fails if the provider's pipe of requests can't be written.
+/// Sends the line of a request to its provider. `Announced` shows that the log on the disk has the request as begun, and is spent, so
+/// the request is sent once. If the provider's pipe of requests can't be written, also returns the evidence that the provider is lost.
 pub(crate) fn send_line(
     pipes: &mut [Pipe],
-    provider: usize,
-    announced: Announced<'_>,
-    line: &str,
-) -> Result<(), Loss>
-    ensures { MatchResult result (λ _. ⊤) (λ loss. loss.provider ≡ provider) }
+    announced: Announced<Flight>,
+) -> (Sent, Result<(), Loss>)
+    ensures flight { result.0.flight ≡ announced.message }
+    ensures loss { IfErr result.1 (λ loss. loss.provider ≡ announced.message.provider) }
 {
+    let flight = announced.into_message();
+    let provider = flight.provider;
     let is_sent = match pipes.get_mut(provider) {
-        Some(pipe) => pipe.send(announced, line),
+        Some(pipe) => pipe.send(flight.line.as_str()),
         None => false,
     };
-    if is_sent {
+    let result = if is_sent {
         Ok(())
     } else {
         Err(Loss {
             provider,
             reason: "its pipe of requests can't be written",
         })
-    }
+    };
+    (Sent { flight }, result)
 }
 
 /// Waits until more of a provider's replies can be read, and returns those whose lines are whole.
@@ -146,26 +173,25 @@ pub(crate) fn place_of(flights: &Flights, provider: usize, id: u64) -> Result<us
     }
 }
 
-/// Writes a provider's reply to a request to the log. If the log is lost, returns the evidence that nothing more is to be begun.
+/// Writes a provider's reply to a request to the log, and returns the reply with the evidence of that.
 ///
 /// # Errors
 ///
-/// Fails if a value of the reply is nested too deep for the log, which isn't lost.
+/// Fails exactly if a value of the reply is nested too deep for the log, or holds a set. Then the reply is dropped.
 pub(crate) fn log_reply(
     alloc: Global,
     log: &ApplyLog,
     provider: usize,
     request: &Request,
-    reply: &Reply,
-) -> Result<Option<Closing>, Loss>
-    ensures { MatchResult result (λ _. ⊤) (λ loss. loss.provider ≡ provider) }
+    reply: Reply,
+) -> Result<LoggedReply, Loss>
+    ensures { MatchResult result
+        (λ logged. (logged.request.value ≡ request.now) × (logged.reply ≡ reply))
+        (λ loss. (loss.provider ≡ provider) × ((request_fits (asked request.now) && answer_fits (answered reply)) ≡ false)) }
 {
-    if log.receive(alloc, request, reply).is_ok() {
-        return Ok(None);
-    }
-    match Closing::by_log(log) {
-        Some(closing) => Ok(Some(closing)),
-        None => Err(Loss {
+    match log.receive(alloc, request, reply) {
+        Ok(logged) => Ok(logged),
+        Err(_) => Err(Loss {
             provider,
             reason: "a reply that is nested too deep",
         }),
@@ -197,9 +223,8 @@ impl Pipe {
         })
     }
 
-    /// Sends the line of a request, and returns whether it is written. `Announced` shows that the log on the disk has the request as
-    /// begun.
-    fn send(&mut self, _announced: Announced<'_>, line: &str) -> bool {
+    /// Sends the line of a request, and returns whether it is written.
+    fn send(&mut self, line: &str) -> bool {
         self.requests.write_all(line.as_bytes()).is_ok()
     }
 

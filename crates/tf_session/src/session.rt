@@ -1,16 +1,17 @@
 //! The calls of an apply with providers outside the program.
 
-ghost use Rattle.std.specs.Prelude.{◌≡◌, ◌⊎◌, ◌∷◌, ◌||◌, [], All, IfOk, OnOk, false, is_some, length, map, replicate, true};
+ghost use Rattle.std.specs.Prelude.{◌≡◌, ◌≤◌, ◌⊎◌, ◌∷◌, ◌++◌, ◌||◌, [], All, IfOk, OnOk, false, is_some, length, map, replicate, slice_set, true, vec_capacity};
 ghost use Rattle.tf_provider_protocol.specs.Meaning.{asked};
 ghost use Rattle.tf_provider_remote.specs.Flights.{next_provider};
-ghost use Rattle.tf_session.specs.Calls.{Continues, IsMade, IsNoted, IsTakenUp, calls_taken_up, is_closed};
+ghost use Rattle.tf_session.specs.Calls.{Continues, HasRoomFor, IsMade, IsNoted, IsTakenUp, calls_taken_up, is_closed, is_stopped};
 
 use crate::calls::Calls;
-use crate::closing::{Announcement, ApplyLog, Closing, announce};
-use crate::pipes::{Loss, Pipe, Received, log_reply, place_of, receive_from, send_line};
+use crate::closing::{Announcement, Closing, NotStopped, announce, look_for_stop};
+use crate::context::ApplyContext;
+use crate::pipes::{Loss, Pipe, Received, Sent, log_reply, place_of, receive_from, send_line};
 use std::alloc::{AllocError, Global};
 use std::io::Write;
-use tf_cli_files::{ApplyEvents, ProgramInput};
+use tf_cli_files::ApplyEvents;
 use tf_provider::{Provider, Reply, Request, first_provider};
 use tf_provider_log::{Announced, LogEntry};
 use tf_provider_remote::{Flight, Flights, RemoteTypes, Response, Unsent, request_line};
@@ -82,18 +83,20 @@ impl Session {
     pub fn entries(&self) -> &[LogEntry]
         ensures { result.now ≡ self.now.calls.entries.items }
     {
-        self.calls.entries.as_slice()
+        self.calls.entries()
     }
 
     /// Returns the requests that were sent and have no reply yet.
     pub fn flights(&self) -> &Flights
         ensures { result.now ≡ self.now.calls.flights }
     {
-        &self.calls.flights
+        self.calls.flights()
     }
 
-    /// Returns whether nothing more was begun because the file exists that stops an apply.
-    pub fn is_stopped(&self) -> bool {
+    /// Returns whether the first reason to begin nothing more was the file that stops an apply.
+    pub fn is_stopped(&self) -> bool
+        ensures { result ≡ is_stopped self.now }
+    {
         match &self.closing {
             Some(closing) => closing.is_stop(),
             None => false,
@@ -104,45 +107,38 @@ impl Session {
     pub fn awaits_reply(&self) -> bool
         ensures { result ≡ is_some (next_provider self.now.lost.items self.now.calls.flights.flights.items) }
     {
-        self.calls.flights.next_provider(&self.lost).is_some()
+        self.calls.flights().next_provider(&self.lost).is_some()
     }
 
-    /// Makes those of these calls that aren't begun, and takes replies. Calls of providers outside the program are sent; `providers`
-    /// are called for the others. If a provider is lost, or a stop file exists that the options name, nothing more is begun. Makes no
-    /// other call, and forgets none that was made, so none is made twice.
+    /// Makes those of these calls that aren't begun, and takes replies. Requests to providers outside the program are sent; the
+    /// providers of the program are called for the others. If a provider is lost, or a stop file exists that the options name, nothing
+    /// more is begun. Makes no other call, and forgets none that was made, so none is made twice.
     ///
     /// # Errors
     ///
     /// Fails only if memory runs out.
     pub fn serve<E: Write>(
         &mut self,
-        rt: &HostRuntime,
-        log: &ApplyLog,
-        providers: &[Box<dyn Provider + Sync>],
-        given: &ProgramInput,
+        context: ApplyContext<'_>,
         unanswered: Vec<Request>,
         err: &mut E,
     ) -> Result<(), AllocError>
         ensures continues { OnOk result (Continues (map asked unanswered.items) self.old self.new) }
         ensures made { OnOk result (All (λ r. IsMade (asked r) self.new) unanswered.items) }
     {
-        self.make_all(rt, log, providers, given, unanswered, err)?;
-        let folders = given.options.providers.as_slice();
-        self.flush(rt.alloc(), log, folders, err)?;
-        let enough = 1 + self.calls.entries.len() / 200;
+        self.make_all(context, unanswered, err)?;
+        self.flush(context, err)?;
+        let enough = 1 + self.calls.entries().len() / 200;
         for _ in 0..enough {
-            self.receive(rt, log, folders, err)?;
+            self.receive(context, err);
         }
         Ok(())
     }
 
-    /// Makes calls that aren't begun, until nothing more is to be begun.
+    /// Makes calls that aren't begun, until nothing more is to be begun. Looks for the stop file before each.
     fn make_all<E: Write>(
         &mut self,
-        rt: &HostRuntime,
-        log: &ApplyLog,
-        providers: &[Box<dyn Provider + Sync>],
-        given: &ProgramInput,
+        context: ApplyContext<'_>,
         requests: Vec<Request>,
         err: &mut E,
     ) -> Result<(), AllocError>
@@ -150,11 +146,16 @@ impl Session {
         ensures taken_up { OnOk result (All (λ r. IsTakenUp (asked r) self.new) requests.items) }
     {
         for request in requests {
-            self.close(Closing::by_stop_file(rt, &given.options.stop_file));
             if self.closing.is_some() {
                 return Ok(());
             }
-            self.make(rt, log, providers, given, request, err)?;
+            match look_for_stop(context.rt, &context.given.options.stop_file) {
+                Ok(not_stopped) => self.make(context, not_stopped, request, err)?,
+                Err(closing) => {
+                    self.close(Some(closing));
+                    return Ok(());
+                }
+            }
         }
         Ok(())
     }
@@ -163,6 +164,7 @@ impl Session {
     fn close(&mut self, closing: Option<Closing>)
         ensures same { (self.new.types ≡ self.old.types) × (self.new.calls ≡ self.old.calls) × (self.new.lost ≡ self.old.lost) }
         ensures closed { is_closed self.new ≡ (is_closed self.old || is_some closing) }
+        ensures first { is_closed self.old ≡ true → is_stopped self.new ≡ is_stopped self.old }
     {
         if self.closing.is_none() {
             self.closing = closing;
@@ -172,22 +174,19 @@ impl Session {
     /// Makes a call, unless it is begun already. If it is of a provider outside the program, it may first wait for others.
     fn make<E: Write>(
         &mut self,
-        rt: &HostRuntime,
-        log: &ApplyLog,
-        providers: &[Box<dyn Provider + Sync>],
-        given: &ProgramInput,
+        context: ApplyContext<'_>,
+        not_stopped: NotStopped,
         request: Request,
         err: &mut E,
     ) -> Result<(), AllocError>
         ensures continues { OnOk result (Continues (asked request ∷ []) self.old self.new) }
         ensures taken_up { OnOk result (IsTakenUp (asked request) self.new) }
     {
-        let folders = given.options.providers.as_slice();
         match self.types.provider_of(request.type_name.as_str()) {
-            Some(provider) => self.send(rt, log, folders, provider, request, err),
+            Some(provider) => self.send(context, not_stopped, provider, request, err),
             None => {
-                self.flush(rt.alloc(), log, folders, err)?;
-                self.call(log, providers, request)
+                self.flush(context, err)?;
+                self.call(context, not_stopped, request)
             }
         }
     }
@@ -195,8 +194,8 @@ impl Session {
     /// Calls a provider of the program, unless this call is begun already.
     fn call(
         &mut self,
-        log: &ApplyLog,
-        providers: &[Box<dyn Provider + Sync>],
+        context: ApplyContext<'_>,
+        not_stopped: NotStopped,
         request: Request,
     ) -> Result<(), AllocError>
         ensures continues { OnOk result (Continues (asked request ∷ []) self.old self.new) }
@@ -205,11 +204,8 @@ impl Session {
         if self.calls.has_begun(&request) {
             return Ok(());
         }
-        let reply = match first_provider(providers, request.type_name.as_str()) {
-            Some(provider) => provider.apply(&request),
-            None => Reply::NoMemory,
-        };
-        self.close(Closing::by_log(log));
+        let reply = call_provider(context.providers, not_stopped, &request);
+        self.close(Closing::by_log(context.log));
         self.calls.answer(request, reply)
     }
 
@@ -217,9 +213,8 @@ impl Session {
     /// begun already. A request whose line can't be built has no answer, and isn't tried again.
     fn send<E: Write>(
         &mut self,
-        rt: &HostRuntime,
-        log: &ApplyLog,
-        folders: &[String],
+        context: ApplyContext<'_>,
+        not_stopped: NotStopped,
         provider: usize,
         request: Request,
         err: &mut E,
@@ -227,12 +222,12 @@ impl Session {
         ensures continues { OnOk result (Continues (asked request ∷ []) self.old self.new) }
         ensures taken_up { OnOk result (IsTakenUp (asked request) self.new) }
     {
-        let line = match request_line(rt.alloc(), self.next_id, &request) {
+        let line = match request_line(context.rt.alloc(), self.next_id, &request) {
             Ok(line) => line,
             Err(Unsent::OutOfMemory) => return Err(AllocError),
             Err(Unsent::Unfit) => return self.calls.answer(request, Reply::NoMemory),
         };
-        self.make_room(rt, log, folders, line.len(), err)?;
+        self.make_room(context, line.len(), err)?;
         if self.closing.is_some() {
             return Ok(());
         }
@@ -241,204 +236,185 @@ impl Session {
         }
         let id = self.next_id;
         self.next_id = id.saturating_add(1);
-        self.calls.wait(Flight {
+        let flight = Flight {
             id,
             provider,
             line,
             request,
-        })
+        };
+        self.calls.wait(flight, not_stopped)
     }
 
     /// Sends what waits and takes replies, until few enough requests are in flight for a line of this size.
     fn make_room<E: Write>(
         &mut self,
-        rt: &HostRuntime,
-        log: &ApplyLog,
-        folders: &[String],
+        context: ApplyContext<'_>,
         size: usize,
         err: &mut E,
     ) -> Result<(), AllocError>
         ensures { OnOk result (Continues [] self.old self.new) }
     {
         for _ in 0..u64::MAX {
-            if self.closing.is_some() || self.has_room(size) {
+            if self.closing.is_some() || self.calls.has_room(self.most, size) {
                 break;
             }
-            self.flush(rt.alloc(), log, folders, err)?;
-            self.receive(rt, log, folders, err)?;
+            self.flush(context, err)?;
+            self.receive(context, err);
         }
         Ok(())
-    }
-
-    /// Returns whether few enough requests are in flight or wait for a line of this size.
-    fn has_room(&self, size: usize) -> bool {
-        let Calls {
-            waiting,
-            flights,
-            ..
-        } = &self.calls;
-        flights.has_room(waiting, self.most, size)
     }
 
     /// Writes that the waiting requests are begun, syncs the log once, and sends their lines. If the log can't say that one is begun,
     /// neither this one nor a later one is sent, and nothing more is begun.
-    fn flush<E: Write>(
-        &mut self,
-        alloc: Global,
-        log: &ApplyLog,
-        folders: &[String],
-        err: &mut E,
-    ) -> Result<(), AllocError>
+    fn flush<E: Write>(&mut self, context: ApplyContext<'_>, err: &mut E) -> Result<(), AllocError>
         ensures continues { OnOk result (Continues [] self.old self.new) }
         ensures sent { OnOk result ((is_closed self.new ≡ true) ⊎ (self.new.calls.waiting.flights.items ≡ [])) }
     {
-        if self.closing.is_some() || self.calls.waiting.is_empty() {
+        if self.closing.is_some() || self.calls.none_waits() {
             return Ok(());
         }
-        let mut waiting = self.calls.take_waiting(alloc);
+        let alloc = context.rt.alloc();
+        let waiting = self.calls.take_waiting(alloc);
         self.calls.reserve(waiting.len())?;
-        let Announcement { announced, closing } = announce(alloc, log, waiting.as_slice());
-        let count = announced.len();
-        self.write_all(folders, announced, waiting.as_slice(), err);
+        let Announcement { announced, closing } = announce(alloc, context.log, waiting);
         self.close(closing);
-        waiting.truncate(count);
-        self.calls.add_sent(waiting);
+        self.write_all(context, announced, err);
         Ok(())
     }
 
-    /// Writes the lines of requests to the pipes of their providers.
+    /// Writes the lines of requests to the pipes of their providers. There has to be memory for these requests in flight.
     fn write_all<E: Write>(
         &mut self,
-        folders: &[String],
-        announced: Vec<Announced<'_>>,
-        waiting: &[Flight],
+        context: ApplyContext<'_>,
+        announced: Vec<Announced<Flight>>,
         err: &mut E,
     )
-        ensures same { (self.new.types ≡ self.old.types) × (self.new.calls ≡ self.old.calls) }
+        requires { HasRoomFor (length announced.items) self.old.calls }
+        ensures same { (self.new.types ≡ self.old.types) × (self.new.calls.waiting ≡ self.old.calls.waiting) × (self.new.calls.entries ≡ self.old.calls.entries) }
+        ensures sent { self.new.calls.flights.flights.items ≡ self.old.calls.flights.flights.items ++ map (λ a. a.message) announced.items }
         ensures closed { is_closed self.old ≡ true → is_closed self.new ≡ true }
     {
-        for (announced, flight) in announced.into_iter().zip(waiting) {
-            self.write(folders, announced, flight, err);
+        for announced in announced {
+            self.write(context, announced, err);
         }
     }
 
-    /// Writes the line of a request to the pipe of its provider, unless that is lost.
+    /// Writes the line of a request to the pipe of its provider, unless that is lost. After that, the request is in flight.
     fn write<E: Write>(
         &mut self,
-        folders: &[String],
-        announced: Announced<'_>,
-        flight: &Flight,
+        context: ApplyContext<'_>,
+        announced: Announced<Flight>,
         err: &mut E,
     )
-        ensures same { (self.new.types ≡ self.old.types) × (self.new.calls ≡ self.old.calls) }
+        requires { HasRoomFor 1 self.old.calls }
+        ensures same { (self.new.types ≡ self.old.types) × (self.new.calls.waiting ≡ self.old.calls.waiting) × (self.new.calls.entries ≡ self.old.calls.entries) }
+        ensures sent { self.new.calls.flights.flights.items ≡ self.old.calls.flights.flights.items ++ announced.message ∷ [] }
+        ensures room { vec_capacity self.old.calls.flights.flights ≤ vec_capacity self.new.calls.flights.flights }
         ensures closed { is_closed self.old ≡ true → is_closed self.new ≡ true }
     {
-        if self.lost.get(flight.provider) == Some(&true) {
+        if self.lost.get(announced.message().provider) == Some(&true) {
+            self.calls.add_sent(Sent::to_lost(announced, &self.lost));
             return;
         }
-        self.events.begin(&flight.request);
-        let line = flight.line.as_str();
-        if let Err(loss) = send_line(&mut self.pipes, flight.provider, announced, line) {
-            self.lose(folders, loss, err);
+        self.events.begin(&announced.message().request);
+        let (sent, result) = send_line(&mut self.pipes, announced);
+        self.calls.add_sent(sent);
+        if let Err(loss) = result {
+            self.lose(context, loss, err);
         }
     }
 
     /// Waits for replies of the provider of the first request in flight, if there is one.
-    fn receive<E: Write>(
-        &mut self,
-        rt: &HostRuntime,
-        log: &ApplyLog,
-        folders: &[String],
-        err: &mut E,
-    ) -> Result<(), AllocError>
-        ensures { OnOk result (Continues [] self.old self.new) }
+    fn receive<E: Write>(&mut self, context: ApplyContext<'_>, err: &mut E)
+        ensures { Continues [] self.old self.new }
     {
-        let Some(provider) = self.calls.flights.next_provider(&self.lost) else {
-            return Ok(());
+        let Some(provider) = self.calls.flights().next_provider(&self.lost) else {
+            return;
         };
-        match receive_from(rt, &mut self.pipes, provider) {
-            Ok(received) => self.take_all(rt.alloc(), log, folders, provider, received, err),
-            Err(loss) => {
-                self.lose(folders, loss, err);
-                Ok(())
-            }
+        match receive_from(context.rt, &mut self.pipes, provider) {
+            Ok(received) => self.take_all(context, provider, received, err),
+            Err(loss) => self.lose(context, loss, err),
         }
     }
 
     /// Takes the replies of a provider, which is lost if a line of it wasn't a reply.
     fn take_all<E: Write>(
         &mut self,
-        alloc: Global,
-        log: &ApplyLog,
-        folders: &[String],
+        context: ApplyContext<'_>,
         provider: usize,
         received: Received,
         err: &mut E,
-    ) -> Result<(), AllocError>
-        ensures { OnOk result (Continues [] self.old self.new) }
+    )
+        ensures { Continues [] self.old self.new }
     {
         let Received { replies, loss } = received;
         for response in replies {
-            self.take(alloc, log, folders, provider, response, err)?;
+            self.take(context, provider, response, err);
         }
         if let Some(loss) = loss {
-            self.lose(folders, loss, err);
+            self.lose(context, loss, err);
         }
-        Ok(())
     }
 
     /// Takes a reply: writes it to the log, and then uses it. A request stays in flight if the log can't hold its reply.
     fn take<E: Write>(
         &mut self,
-        alloc: Global,
-        log: &ApplyLog,
-        folders: &[String],
+        context: ApplyContext<'_>,
         provider: usize,
         response: Response,
         err: &mut E,
-    ) -> Result<(), AllocError>
-        ensures continues { OnOk result (Continues [] self.old self.new) }
-        ensures noted { OnOk result (IsNoted provider response.id response.reply self.old self.new) }
+    )
+        ensures continues { Continues [] self.old self.new }
+        ensures noted { IsNoted provider response.id response.reply self.old self.new }
     {
         if self.lost.get(provider) == Some(&true) {
-            return Ok(());
+            return;
         }
         let Response { id, reply } = response;
-        let place = match place_of(&self.calls.flights, provider, id) {
+        let place = match place_of(self.calls.flights(), provider, id) {
             Ok(place) => place,
-            Err(loss) => {
-                self.lose(folders, loss, err);
-                return Ok(());
-            }
+            Err(loss) => return self.lose(context, loss, err),
         };
-        let flight = &self.calls.flights.list()[place];
-        let closing = match log_reply(alloc, log, provider, &flight.request, &reply) {
-            Ok(closing) => closing,
-            Err(loss) => {
-                self.lose(folders, loss, err);
-                return Ok(());
-            }
+        let flight = &self.calls.flights().list()[place];
+        let alloc = context.rt.alloc();
+        let logged = match log_reply(alloc, context.log, provider, &flight.request, reply) {
+            Ok(logged) => logged,
+            Err(loss) => return self.lose(context, loss, err),
         };
-        self.events.end(&flight.request, &reply, None);
-        self.close(closing);
-        self.calls.end_at(place, reply)
+        self.events.end(&flight.request, logged.reply(), None);
+        self.close(Closing::by_log(context.log));
+        self.calls.end_at(place, logged);
     }
 
     /// Notes that a provider is lost, and prints why. Nothing more is begun.
-    fn lose<E: Write>(&mut self, folders: &[String], loss: Loss, err: &mut E)
+    fn lose<E: Write>(&mut self, context: ApplyContext<'_>, loss: Loss, err: &mut E)
         ensures same { (self.new.types ≡ self.old.types) × (self.new.calls ≡ self.old.calls) }
         ensures closed { is_closed self.new ≡ true }
+        ensures lost { self.new.lost.items ≡ slice_set self.old.lost.items loss.provider true }
     {
         self.close(Some(Closing::by_loss(&loss)));
         let provider = loss.provider();
-        if let Some(lost) = self.lost.get_mut(provider) {
-            if *lost {
-                return;
-            }
-            *lost = true;
+        let was_lost = self.lost.get(provider) == Some(&true);
+        if provider < self.lost.len() {
+            self.lost[provider] = true;
         }
-        if let Some(folder) = folders.get(provider) {
+        if was_lost {
+            return;
+        }
+        if let Some(folder) = context.given.options.providers.get(provider) {
             let _ = writeln!(err, "error: provider {folder}: {}", loss.reason());
         }
+    }
+}
+
+/// Calls the provider that has the type of a request, by the evidence that the apply isn't stopped.
+fn call_provider(
+    providers: &[Box<dyn Provider + Sync>],
+    _not_stopped: NotStopped,
+    request: &Request,
+) -> Reply {
+    match first_provider(providers, request.type_name.as_str()) {
+        Some(provider) => provider.apply(request),
+        None => Reply::NoMemory,
     }
 }

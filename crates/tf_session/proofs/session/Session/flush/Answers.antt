@@ -1,22 +1,24 @@
 -- the requests that waited are in flight
-use Rattle.std.proofs.Common.{◌≡◌, ◌∙◌, ◌||◌, List, ap, inl, inr, length, nat_lt, refl, rules, sym}
-use Rattle.tf_provider_remote.specs.declared.flights.Flight.{Flight}
+use Rattle.std.proofs.Common.{◌≡◌, ◌∙◌, ◌++◌, ◌||◌, ap, inl, inr, length, map, nat_lt, refl}
 use Rattle.tf_session.proofs.Kept.{flushed, or_left}
 use Rattle.tf_session.specs.Calls.{is_closed}
+use Rattle.tf_session.specs.declared.calls.Calls.{Calls}
 use Rattle.tf_session.proofs.session.Session.flush.Goals as goal
 
 pub returns-clause-continues : goal.returns-clause-continues
 returns-clause-continues g c =
     let n = length c.take_waiting-waiting.result.items in
-    let was = is_closed c.write_all.new.self in
-    let counted : c.len-count.result ≡ length c.announce-announced.result.announced.items = search rules in
-    let closed : is_closed c.close.new.self ≡ (was || nat_lt c.len-count.result n) = c.close.ensures.closed ∙ ap (λ b. was || b) (c.announce-announced.ensures ∙ ap (λ k. nat_lt k (length c.as_slice.result.now)) (sym counted) ∙ ap (λ (l : List Flight). nat_lt c.len-count.result (length l)) c.as_slice.ensures.value) in
-    let (kept, taken, only) = flushed _ _ _ _ c.add_sent.new.self was c.len-count.result n _ _ c.take_waiting-waiting.ensures.others c.take_waiting-waiting.ensures.waited c.take_waiting-waiting.ensures.none
-    c.in_ok-reserve.ensures.others c.in_ok-reserve.ensures.same (c.close.ensures.same.1 ∙ c.write_all.ensures.same.1) refl c.truncate.ensures.items c.add_sent.ensures.others c.add_sent.ensures.sent in
+    let count = length c.announce-announced.result.announced.items in
+    let was = is_closed c.args.self.now in
+    let closed : is_closed c.close.new.self ≡ (was || nat_lt count n) = c.close.ensures.closed ∙ ap (λ b. was || b) c.announce-announced.ensures.closing in
+    let (kept, taken, only) = flushed c.args.self.now.calls c.take_waiting-waiting.new.self c.reserve.new.self c.write_all.new.self.calls was count n _ _ c.take_waiting-waiting.ensures.others c.take_waiting-waiting.ensures.waited c.take_waiting-waiting.ensures.none
+    c.in_ok-reserve.ensures.waiting c.in_ok-reserve.ensures.same refl c.announce-announced.ensures.first
+    (c.write_all.ensures.same.1 ∙ ap (λ (d : Calls). d.waiting) c.close.ensures.same.1, c.write_all.ensures.same.2 ∙ ap (λ (d : Calls). d.entries) c.close.ensures.same.1)
+    (c.write_all.ensures.sent ∙ ap (λ (d : Calls). d.flights.flights.items ++ map (λ a. a.message) c.announce-announced.result.announced.items) c.close.ensures.same.1) in
     record {
-      types = c.close.ensures.same.0 ∙ c.write_all.ensures.same.0;
+      types = c.write_all.ensures.same.0 ∙ c.close.ensures.same.0;
       calls = kept;
-      closed = λ e. c.close.ensures.closed ∙ or_left _ _ (c.write_all.ensures.closed e);
-      taken_up = λ q h. elim (taken q h) [ inl e ↦ inl (closed ∙ e) | inr there ↦ inr there ];
+      closed = λ e. c.write_all.ensures.closed (c.close.ensures.closed ∙ or_left _ _ e);
+      taken_up = λ q h. elim (taken q h) [ inl e ↦ inl (c.write_all.ensures.closed (closed ∙ e)) | inr there ↦ inr there ];
       only = only;
     }

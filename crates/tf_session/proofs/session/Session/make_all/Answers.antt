@@ -15,12 +15,12 @@ loop-request-preserved g c =
     let rest = map asked (into_iter_items c.next.new.self) in
     let left : map asked (into_iter_items c.loop-request.request-iterator) ≡ asked r ∷ rest = ap (map asked) c.in-Some.ensures.steps.0 in
     let there = λ (q : Asked) (h : Contains (asked r ∷ rest) q). c.loop-request.invariant.left q (subst (λ l. Contains l q) (sym left) h) in
-    let on = continues_then (asked r ∷ []) _ _ _ (continues_same (asked r ∷ []) _ _ (c.close.ensures.same.0, c.close.ensures.same.1) (λ e. c.close.ensures.closed ∙ or_left _ _ e)) c.in_ok-make.ensures.continues in
+    let made = c.in_ok-make-in-Ok.ensures in
     record {
-      continues = continues_then all _ _ _ c.loop-request.invariant.continues (continues_for (asked r ∷ []) all _ _ (λ q h. there q (Contains-append_left (asked r ∷ []) rest q h)) on);
-      taken_up = one_more (asked r ∷ []) _ _ _ _ on c.loop-request.invariant.taken_up c.in_ok-make.ensures.taken_up;
+      continues = continues_then all _ _ _ c.loop-request.invariant.continues (continues_for (asked r ∷ []) all _ _ (λ q h. there q (Contains-append_left (asked r ∷ []) rest q h)) made.continues);
+      taken_up = one_more (asked r ∷ []) _ _ _ _ made.continues c.loop-request.invariant.taken_up made.taken_up;
       left = λ q h. there q (Contains-append_right (asked r ∷ []) rest q h);
     }
 
-pub returns-then-is_some-clause-continues : goal.returns-then-is_some-clause-continues
-returns-then-is_some-clause-continues g c = continues_then _ _ _ _ c.loop-request.invariant.continues (continues_same _ _ _ (c.close.ensures.same.0, c.close.ensures.same.1) (λ e. c.close.ensures.closed ∙ or_left _ _ e))
+pub returns-in-Err-clause-continues : goal.returns-in-Err-clause-continues
+returns-in-Err-clause-continues g c = continues_then _ _ _ _ c.loop-request.invariant.continues (continues_same _ _ _ (c.close.ensures.same.0, c.close.ensures.same.1) (λ e. c.close.ensures.closed ∙ or_left _ _ e))

@@ -1,12 +1,12 @@
 -- there is room, and the request waits
 use Rattle.std.proofs.Common.{◌∙◌, refl, sym}
 use Rattle.tf_provider_protocol.specs.Meaning.{asked}
-use Rattle.tf_session.proofs.Kept.{continues_by, continues_on, continues_waits, continues_with}
+use Rattle.tf_session.proofs.Kept.{always, continues_calls, continues_on, continues_waits, continues_with}
 use Rattle.tf_session.proofs.Served.{taken_answered, taken_begun, taken_waits}
 use Rattle.tf_session.proofs.session.Session.send.Goals as goal
 
 pub returns-in-Err-Unfit-clause-continues : goal.returns-in-Err-Unfit-clause-continues
-returns-in-Err-Unfit-clause-continues g c = continues_by _ c.answer.result _ _ refl (λ e. e) c.answer.ensures.others.0 c.answer.ensures.kept c.answer.ensures.only
+returns-in-Err-Unfit-clause-continues g c = always c.answer.result _ (continues_calls _ _ _ refl (λ e. e) c.answer.ensures.others.0 c.answer.ensures.kept c.answer.ensures.only)
 
 pub returns-in-Err-Unfit-clause-taken_up : goal.returns-in-Err-Unfit-clause-taken_up
 returns-in-Err-Unfit-clause-taken_up g c = taken_answered _ _ c.answer.result c.args.request _ c.answer.new.self c.args.self.now.calls.entries.items c.answer.ensures.answered

@@ -11,6 +11,6 @@ loop-init g c = record {
 
 pub loop-preserved : goal.loop-preserved
 loop-preserved g c = record {
-  continues = continues_then _ _ _ _ c.loop.invariant.continues (continues_with _ _ _ c.in_ok-receive.ensures);
-  made = all_made_then _ _ _ _ c.in_ok-receive.ensures c.loop.invariant.made;
+  continues = continues_then _ _ _ _ c.loop.invariant.continues (continues_with _ _ _ c.receive.ensures);
+  made = all_made_then _ _ _ _ c.receive.ensures c.loop.invariant.made;
 }
